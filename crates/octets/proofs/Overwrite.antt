@@ -1,0 +1,77 @@
+-- Laws of writing over a part of a list.
+use Prim.Native.Nat.{ℕ, suc, _+_, _≤_, _<_}
+use mathlib.Core.Path.{_≡_, refl, sym, ap, _∙_}
+use mathlib.Core.List.{List, [], _∷_, _++_, append-assoc}
+use native.Mathlib.Omega.{arith}
+use native.Mathlib.Nat.{add-zero}
+use native.Mathlib.Numerals.{add-one}
+use lib.ListN.{length, take, drop, set, length-append, length-drop, take-append-drop}
+use lib.Seq.{length-take-le, take-at, drop-at, drop-drop, set-split, take-all, take-append-seam}
+use Rattle.octets.specs.Overwrite.{overwrite}
+
+pub overwrite-nothing : (l : List ℕ) (at : ℕ) → overwrite l at [] ≡ l
+unfolding overwrite
+overwrite-nothing l at = rw add-zero (take-append-drop at l)
+
+-- one store
+pub set≡overwrite : (l : List ℕ) (at v : ℕ) → at < length l → set l at v ≡ overwrite l at (v ∷ [])
+unfolding overwrite
+set≡overwrite l at v h = rw add-one (set-split l at v h)
+
+-- at the front: the part, and the rest as it was
+pub overwrite-front : (l vs : List ℕ) → overwrite l 0 vs ≡ vs ++ drop (length vs) l
+unfolding overwrite
+overwrite-front l vs = let e : 0 + length vs ≡ length vs = omega arith in rw e
+
+module _ (l : List ℕ) (at : ℕ) (vs : List ℕ) (fits : at + length vs ≤ length l) where
+  before : length (take at l) ≡ at
+  before = length-take-le at l (omega arith)
+
+  pub length-overwrite : length (overwrite l at vs) ≡ length l
+  unfolding overwrite
+  length-overwrite = simp (length-append, length-drop) (omega (arith, before))
+
+  pub take-overwrite : take at (overwrite l at vs) ≡ take at l
+  unfolding overwrite
+  take-overwrite = take-at (take at l) (vs ++ drop (at + length vs) l) at before
+
+  -- what was written is there
+  pub overwrite-there : take (length vs) (drop at (overwrite l at vs)) ≡ vs
+  unfolding overwrite
+  overwrite-there =
+      rw (drop-at (take at l) (vs ++ drop (at + length vs) l) at before)
+      (take-append-seam vs (drop (at + length vs) l))
+
+  pub drop-overwrite : drop (at + length vs) (overwrite l at vs) ≡ drop (at + length vs) l
+  unfolding overwrite
+  drop-overwrite =
+      rw (← append-assoc (take at l) vs (drop (at + length vs) l))
+      (drop-at (take at l ++ vs) (drop (at + length vs) l) (at + length vs)
+      (length-append (take at l) vs ∙ omega (arith, before)))
+
+  -- a second part, written where the first ends
+  pub overwrite-append : (ws : List ℕ) → overwrite (overwrite l at vs) (at + length vs) ws ≡ overwrite l at (vs ++ ws)
+  unfolding overwrite
+  overwrite-append ws =
+      let head : take (at + length vs) (overwrite l at vs) ≡ take at l ++ vs =
+      rw (← append-assoc (take at l) vs (drop (at + length vs) l))
+      (take-at (take at l ++ vs) (drop (at + length vs) l) (at + length vs)
+      (length-append (take at l) vs ∙ omega (arith, before))) in
+      let sum : at + length vs + length ws ≡ at + length (vs ++ ws) = simp length-append (omega arith) in
+      let tail : drop (at + length vs + length ws) (overwrite l at vs) ≡ drop (at + length (vs ++ ws)) l =
+      sym (drop-drop (length ws) (at + length vs) (overwrite l at vs))
+      ∙ ap (drop (length ws)) drop-overwrite
+      ∙ drop-drop (length ws) (at + length vs) l
+      ∙ ap (λ (k : ℕ). drop k l) sum in
+      rw (head, tail) (simp append-assoc)
+
+-- the same, where the first part's length is told by an equation
+pub overwrite-join : (l : List ℕ) (at n : ℕ) (vs ws : List ℕ) → length vs ≡ n → at + n ≤ length l → overwrite (overwrite l at vs) (at + n) ws ≡ overwrite l at (vs ++ ws)
+overwrite-join l at n vs ws e fits = rw (← e) (overwrite-append l at vs (rw e fits) ws)
+
+-- two stores, side by side
+pub set-set≡overwrite : (l : List ℕ) (at v w : ℕ) → at + 2 ≤ length l → set (set l at v) (at + 1) w ≡ overwrite l at (v ∷ w ∷ [])
+set-set≡overwrite l at v w fits =
+    let one : set l at v ≡ overwrite l at (v ∷ []) = set≡overwrite l at v (omega arith) in
+    rw (one, set≡overwrite (overwrite l at (v ∷ [])) (at + 1) w (rw (length-overwrite l at (v ∷ []) (omega arith)) (omega arith)))
+    (overwrite-join l at 1 (v ∷ []) (w ∷ []) refl (omega arith))

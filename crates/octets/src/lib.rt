@@ -1,0 +1,62 @@
+// Big-endian numbers of 2, 4 and 8 octets in lent bytes, at an offset.
+ghost use mathlib.Core.Path.{_≡_};
+ghost use Prim.Native.Nat.{_+_, _≤_, _<_};
+ghost use lib.ListN.{length};
+ghost use Rattle.octets.specs.BigEndian.{bigEndian, octetsOf};
+ghost use Rattle.octets.specs.Overwrite.{overwrite};
+
+// A byte as a wider number; a call, so that a read asks for its index alone.
+fn wide(x: u8) -> u32
+    ensures { λ r. ⌜ (r ≡ x) × (r < 256) ⌝ }
+{
+    x as u32
+}
+
+pub fn read16(s: &[u8], at: usize) -> u16
+    requires { ⌜ at + 2 ≤ length (now s) ⌝ }
+    ensures { λ r. ⌜ r ≡ bigEndian 2 (now (s .entry)) at ⌝ }
+{
+    (wide(s[at]) * 256 + wide(s[at + 1])) as u16
+}
+
+pub fn read32(s: &[u8], at: usize) -> u32
+    requires { ⌜ at + 4 ≤ length (now s) ⌝ }
+    ensures { λ r. ⌜ r ≡ bigEndian 4 (now (s .entry)) at ⌝ }
+{
+    let high = read16(s, at) as u32;
+    let low = read16(s, at + 2) as u32;
+    high * 65536 + low
+}
+
+pub fn read64(s: &[u8], at: usize) -> u64
+    requires { ⌜ at + 8 ≤ length (now s) ⌝ }
+    ensures { λ r. ⌜ r ≡ bigEndian 8 (now (s .entry)) at ⌝ }
+{
+    let high = read32(s, at) as u64;
+    let low = read32(s, at + 4) as u64;
+    high * 4294967296 + low
+}
+
+pub fn write16(s: &mut [u8], at: usize, v: u16)
+    requires { ⌜ at + 2 ≤ length (now s) ⌝ }
+    ensures { λ r. ⌜ now (s .exit) ≡ overwrite (now (s .entry)) at (octetsOf 2 v) ⌝ }
+{
+    s[at] = (v / 256) as u8;
+    s[at + 1] = (v % 256) as u8;
+}
+
+pub fn write32(s: &mut [u8], at: usize, v: u32)
+    requires { ⌜ at + 4 ≤ length (now s) ⌝ }
+    ensures { λ r. ⌜ now (s .exit) ≡ overwrite (now (s .entry)) at (octetsOf 4 v) ⌝ }
+{
+    write16(s, at, (v / 65536) as u16);
+    write16(s, at + 2, (v % 65536) as u16);
+}
+
+pub fn write64(s: &mut [u8], at: usize, v: u64)
+    requires { ⌜ at + 8 ≤ length (now s) ⌝ }
+    ensures { λ r. ⌜ now (s .exit) ≡ overwrite (now (s .entry)) at (octetsOf 8 v) ⌝ }
+{
+    write32(s, at, (v / 4294967296) as u32);
+    write32(s, at + 4, (v % 4294967296) as u32);
+}
