@@ -1,0 +1,35 @@
+-- The ring of 2^32 and the unwrapped line (document 01, "Ranges"). Places on the line are whole numbers; a sequence number
+-- is such a place modulo 2^32. Nothing else in this repository reckons modulo 2^32.
+use Prim.Native.Nat.{ℕ, _+_, _-_, _*_, _%_, _^_}
+
+-- the sequence number of a place on the line
+unfoldable pub wrap : ℕ → ℕ
+wrap x = x % 2 ^ 32
+
+-- (x + n) mod 2^32
+unfoldable pub ringPlus : ℕ → ℕ → ℕ
+ringPlus x n = (x + n) % 2 ^ 32
+
+-- (x − y) mod 2^32, for y up to 2^32
+unfoldable pub ringMinus : ℕ → ℕ → ℕ
+ringMinus x y = (x + 2 ^ 32 - y) % 2 ^ 32
+
+-- where x stands on the line seen from base: at the whole number nearest to base's, counted from 2^31 below base
+unfoldable pub standing : ℕ → ℕ → ℕ
+standing base x = (x + 2 ^ 31 + 2 ^ 32 - base) % 2 ^ 32
+
+-- the place on the line that the sequence number s stands for where it is counted from W below E
+unfoldable pub unwrapFrom : ℕ → ℕ → ℕ → ℕ
+unwrapFrom E W s = E - W + ringMinus s (ringMinus (wrap E) W)
+
+-- and where it is counted down from E
+unfoldable pub unwrapBelow : ℕ → ℕ → ℕ
+unwrapBelow E a = E - ringMinus (wrap E) a
+
+-- the largest window and acknowledgement range that the laws allow for: unscaled 65,535 and 66,000, and RFC 7323's
+-- largest shift of 14
+abbrev pub largestWindow : ℕ
+largestWindow = 65535 * 2 ^ 14
+
+abbrev pub largestRange : ℕ
+largestRange = 66000 * 2 ^ 14

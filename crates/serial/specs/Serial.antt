@@ -1,0 +1,31 @@
+-- What the operations on sequence numbers and octet counts give.
+use Prim.Native.Nat.{ℕ, _+_, max}
+use mathlib.Core.Bool.{Bool}
+use Rattle.choice.specs.Choice.{if_then_else_, _<ᵇ_, _≤ᵇ_}
+use Rattle.serial.specs.Ring.{ringPlus, ringMinus, standing}
+use Rattle.serial.specs.declared.SeqNum.{SeqNum}
+use Rattle.serial.specs.declared.OctetCount.{OctetCount}
+
+-- place plus count
+abbrev pub seqPlus : SeqNum → OctetCount → SeqNum
+seqPlus a n = record { 0 = ringPlus (a .0) (n .0) }
+
+-- place minus count, a place: as in low = F.end − T.win
+abbrev pub seqBack : SeqNum → OctetCount → SeqNum
+seqBack a n = record { 0 = ringMinus (a .0) (n .0) }
+
+-- place minus place: the octets from b up to a
+abbrev pub seqMinus : SeqNum → SeqNum → OctetCount
+seqMinus a b = record { 0 = ringMinus (a .0) (b .0) }
+
+-- the further of a and b on the line, where each stands at the whole number nearest base's
+unfoldable pub further : SeqNum → SeqNum → SeqNum → SeqNum
+further base a b = if standing (base .0) (a .0) <ᵇ standing (base .0) (b .0) then b else a
+
+-- the larger count
+abbrev pub larger : OctetCount → OctetCount → OctetCount
+larger m n = record { 0 = max (m .0) (n .0) }
+
+-- d + n ≤ limit, summed as whole numbers
+abbrev pub within : OctetCount → OctetCount → OctetCount → Bool
+within d n limit = d .0 + n .0 ≤ᵇ limit .0

@@ -1,0 +1,52 @@
+// Sequence numbers and octet counts, kept apart: place minus place is a count, place plus count is a place, and nothing
+// adds two places.
+ghost use mathlib.Core.Path.{_≡_};
+ghost use Rattle.serial.specs.Serial.{seqPlus, seqBack, seqMinus, larger, within};
+use std::num::wrapping_add_u32;
+use std::num::wrapping_sub_u32;
+
+// A sequence or acknowledgement number: document 01's "place" on the ring of 2^32.
+pub struct SeqNum(pub u32);
+
+// A length or a window: document 01's "count of octets".
+pub struct OctetCount(pub u32);
+
+impl SeqNum {
+    pub fn plus(self, n: OctetCount) -> SeqNum
+        ensures { λ r. ⌜ r ≡ seqPlus self n ⌝ }
+    {
+        SeqNum(wrapping_add_u32(self.0, n.0))
+    }
+
+    // The place n octets before this one.
+    pub fn back(self, n: OctetCount) -> SeqNum
+        ensures { λ r. ⌜ r ≡ seqBack self n ⌝ }
+    {
+        SeqNum(wrapping_sub_u32(self.0, n.0))
+    }
+
+    // The octets from other up to this place.
+    pub fn minus(self, other: SeqNum) -> OctetCount
+        ensures { λ r. ⌜ r ≡ seqMinus self other ⌝ }
+    {
+        OctetCount(wrapping_sub_u32(self.0, other.0))
+    }
+}
+
+impl OctetCount {
+    pub fn larger(self, other: OctetCount) -> OctetCount
+        ensures { λ r. ⌜ r ≡ larger self other ⌝ }
+    {
+        if self.0 < other.0 {
+            return other;
+        }
+        self
+    }
+
+    // Whether this count and n more, summed as whole numbers, are at most limit.
+    pub fn within(self, n: OctetCount, limit: OctetCount) -> bool
+        ensures { λ r. ⌜ r ≡ within self n limit ⌝ }
+    {
+        (self.0 as u64) + (n.0 as u64) <= (limit.0 as u64)
+    }
+}
