@@ -1,12 +1,10 @@
 -- Decision lists: the first line that applies wins, top to bottom.
 use Prim.Native.Nat.{ℕ}
-use mathlib.Core.Path.{_≡_, refl}
 use mathlib.Core.Bool.{Bool, true, false, not}
 use lib.Dec.{ltb, leb, eqb}
 
 infix 20 if_then_else_
 infix 40 _<ᵇ_ _≤ᵇ_ _=ᵇ_ _≠ᵇ_
-
 -- shut, so that a list of lines stays a list of lines; `if-true` and `if-false` are its whole meaning
 unfoldable pub if_then_else_ : {A : Type 0} → Bool → A → A → A
 if_then_else_ true a b = a
@@ -23,11 +21,3 @@ _=ᵇ_ = eqb
 
 abbrev pub _≠ᵇ_ : ℕ → ℕ → Bool
 _≠ᵇ_ m n = not (eqb m n)
-
-pub if-true : {A : Type 0} (t : Bool) (a b : A) → t ≡ true → (if t then a else b) ≡ a
-unfolding if_then_else_
-if-true t a b e = rw e
-
-pub if-false : {A : Type 0} (t : Bool) (a b : A) → t ≡ false → (if t then a else b) ≡ b
-unfolding if_then_else_
-if-false t a b e = rw e

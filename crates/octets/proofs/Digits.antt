@@ -63,9 +63,14 @@ pub digits-number : (base : ℕ) (f : ℕ → ℕ) (n : ℕ) → 0 < base → ((
 unfolding number digits tabulate
 digits-number base f zero pos small = refl
 digits-number base f (suc n) pos small =
-    rw (mul-add-div-right pos (number base f n) (f n), div-eq-of-lt (small n (omega arith)), add-zero,
-    mul-add-mod-self-right (number base f n) base (f n), mod-eq-of-lt (small n (omega arith)),
-    digits-number base f n pos (λ i h. small i (omega arith)))
+    rw (
+      mul-add-div-right pos (number base f n) (f n),
+      div-eq-of-lt (small n (omega arith)),
+      add-zero,
+      mul-add-mod-self-right (number base f n) base (f n),
+      mod-eq-of-lt (small n (omega arith)),
+      digits-number base f n pos (λ i h. small i (omega arith)),
+    )
 
 -- Two runs of digits, one after the other
 
@@ -83,6 +88,12 @@ digits-add base m zero h l pos small =
     let whole : h * 1 + 0 ≡ h = omega arith in
     rw (none, pow-zero, add-zero, whole) (sym (append-nil (digits base m h)))
 digits-add base m (suc n) h l pos small =
-    rw (add-suc, pow-suc, ← mul-assoc, mul-add-div-right pos (h * base ^ n) l, mul-add-mod-self-right (h * base ^ n) base l,
-    digits-add base m n h (l / base) pos (div-lt-iff-lt-mul pos .1 (rw pow-suc at small)))
+    rw (
+      add-suc,
+      pow-suc,
+      ← mul-assoc,
+      mul-add-div-right pos (h * base ^ n) l,
+      mul-add-mod-self-right (h * base ^ n) base l,
+      digits-add base m n h (l / base) pos (div-lt-iff-lt-mul pos .1 (rw pow-suc at small)),
+    )
     (append-assoc (digits base m h) (digits base n (l / base)) (l % base ∷ []))

@@ -108,9 +108,10 @@ end-rises E W S n small low near =
 
 -- the edge rises exactly where the granted count exceeds edge − end and end − acknowledgement together
 pub edge-rises : (E R A v : ℕ) → E ≤ R → R < E + 2 ^ 32 → A ≤ E → E < A + 2 ^ 32 → (ringMinus (wrap R) (wrap E) + ringMinus (wrap E) (wrap A) < v) ↔ (R < A + v)
-edge-rises E R A v ordered span high near =
-    ((λ t. omega (arith, wrap-minus R E ordered span, wrap-minus E A high near, t)),
-    (λ t. omega (arith, wrap-minus R E ordered span, wrap-minus E A high near, t)))
+edge-rises E R A v ordered span high near = (
+  (λ t. omega (arith, wrap-minus R E ordered span, wrap-minus E A high near, t)),
+  (λ t. omega (arith, wrap-minus R E ordered span, wrap-minus E A high near, t)),
+)
 
 -- the sequence number before an opener's end is its SYN's
 pub syn-before-end : (X : ℕ) → wrap X ≡ ringMinus (wrap (X + 1)) 1

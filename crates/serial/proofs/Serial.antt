@@ -5,7 +5,8 @@ use mathlib.Core.Bool.{Bool, true, false}
 use native.Mathlib.Omega.{arith}
 use lib.Dec.{ltb}
 use borrow.Author.Tests.{ltb-true, ltb-false}
-use Rattle.choice.specs.Choice.{if_then_else_, if-true, if-false}
+use Rattle.choice.specs.Choice.{if_then_else_}
+use Rattle.choice.proofs.Choice.{if-true, if-false}
 use Rattle.serial.specs.Ring.{wrap, standing}
 use Rattle.serial.specs.Serial.{further}
 use Rattle.serial.specs.declared.SeqNum.{SeqNum}

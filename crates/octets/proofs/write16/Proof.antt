@@ -6,34 +6,25 @@ use Rattle.octets.proofs.Overwrite.{set-set≡overwrite}
 use borrow.Author.Needs.{needs}
 use Rattle.octets.proofs.write16.Statement.{statement}
 use Rattle.octets.proofs.write16.Tie as tie
-use Rattle.octets.proofs.write16.Reads as reads
-use Rattle.octets.proofs.write16.Lts as lts
 
--- src/lib.rt:42:13
 cast-s : tie.Need-cast-s
 cast-s c = search needs
 
--- src/lib.rt:42:5
 slice-write-s : tie.Need-slice-write-s
 slice-write-s c = search needs
 
--- src/lib.rt:43:17
 cast-s-2 : tie.Need-cast-s-2
 cast-s-2 c = search needs
 
--- src/lib.rt:43:7
 add-s : tie.Need-add-s
 add-s c = search needs
 
--- src/lib.rt:43:5
 slice-write-s-2 : tie.Need-slice-write-s-2
 slice-write-s-2 c = simp length-set (omega arith)
 
--- src/lib.rt:38:1
 same-length : tie.Need-same-length
 same-length c = search needs
 
--- src/lib.rt:38:1
 returns : tie.Need-returns
 returns c =
     let a = c .args in

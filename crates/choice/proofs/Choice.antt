@@ -1,0 +1,40 @@
+-- Laws of a choice: by its test, and by the fact that the test asks for.
+use Prim.Native.Nat.{ℕ, _<_, _≤_}
+use mathlib.Core.Path.{_≡_, ap}
+use mathlib.Core.Bool.{Bool, true, false, not}
+use borrow.Author.Tests.{lt-ltb, le-ltb, le-leb, lt-leb, eq-eqb, ne-eqb}
+use Rattle.choice.specs.Choice.{if_then_else_, _<ᵇ_, _≤ᵇ_, _=ᵇ_, _≠ᵇ_}
+
+pub if-true : {A : Type 0} (t : Bool) (x y : A) → t ≡ true → (if t then x else y) ≡ x
+unfolding if_then_else_
+if-true t x y e = rw e
+
+pub if-false : {A : Type 0} (t : Bool) (x y : A) → t ≡ false → (if t then x else y) ≡ y
+unfolding if_then_else_
+if-false t x y e = rw e
+
+-- a test that holds takes the line, one that does not goes on to the next
+module _ {A : Type 0} {a b : ℕ} (x y : A) where
+  pub if-< : a < b → (if a <ᵇ b then x else y) ≡ x
+  if-< h = if-true _ x y (lt-ltb a b h)
+
+  pub if-<-not : b ≤ a → (if a <ᵇ b then x else y) ≡ y
+  if-<-not h = if-false _ x y (le-ltb a b h)
+
+  pub if-≤ : a ≤ b → (if a ≤ᵇ b then x else y) ≡ x
+  if-≤ h = if-true _ x y (le-leb a b h)
+
+  pub if-≤-not : b < a → (if a ≤ᵇ b then x else y) ≡ y
+  if-≤-not h = if-false _ x y (lt-leb a b h)
+
+  pub if-= : a ≡ b → (if a =ᵇ b then x else y) ≡ x
+  if-= h = if-true _ x y (eq-eqb a b h)
+
+  pub if-=-not : (a ≡ b → ⊥) → (if a =ᵇ b then x else y) ≡ y
+  if-=-not h = if-false _ x y (ne-eqb a b h)
+
+  pub if-≠ : (a ≡ b → ⊥) → (if a ≠ᵇ b then x else y) ≡ x
+  if-≠ h = if-true _ x y (ap not (ne-eqb a b h))
+
+  pub if-≠-not : a ≡ b → (if a ≠ᵇ b then x else y) ≡ y
+  if-≠-not h = if-false _ x y (ap not (eq-eqb a b h))

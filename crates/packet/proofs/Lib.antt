@@ -1,0 +1,3 @@
+pub mod Sum
+pub mod Flags
+pub mod Read

@@ -1,0 +1,111 @@
+use mathlib.Core.Path.{sym, ap, _∙_}
+use Prim.Native.Nat.{_+_}
+use native.Mathlib.Omega.{arith}
+use Rattle.choice.proofs.Choice.{if-<, if-<-not}
+use Rattle.packet.specs.Read.{rows9to10}
+use Rattle.packet.specs.declared.PacketRead.the-variants.{Tcp}
+use Rattle.packet.proofs.Read.{refused-row10, past-row10}
+use borrow.Author.Needs.{needs}
+use Rattle.packet.proofs.read_tcp.Statement.{statement}
+use Rattle.packet.proofs.read_tcp.Tie as tie
+
+sub-if1 : tie.Need-sub-if1
+sub-if1 c = search needs
+
+returns : tie.Need-returns
+unfolding rows9to10
+returns c = sym (if-< _ _ (c .if1 .taken))
+
+add-offset : tie.Need-add-offset
+add-offset c = search needs
+
+shared-slice-read-offset : tie.Need-shared-slice-read-offset
+shared-slice-read-offset c = search needs
+
+cast-offset : tie.Need-cast-offset
+cast-offset c = omega (arith, c .shared-slice-known2 .given (c .before .before .before .args .h + 12))
+
+mul-offset : tie.Need-mul-offset
+mul-offset c = omega (arith, c .shared-slice-known2 .given (c .before .before .before .args .h + 12))
+
+returns-2 : tie.Need-returns-2
+unfolding rows9to10
+returns-2 c = sym (if-<-not _ _ (c .before .before .if1 .left) ∙ if-< _ _ (c .if2 .taken))
+
+sub-if3 : tie.Need-sub-if3
+sub-if3 c = search needs
+
+returns-3 : tie.Need-returns-3
+unfolding rows9to10
+returns-3 c = sym (if-<-not _ _ (c .before .before .before .if1 .left) ∙ if-<-not _ _ (c .before .if2 .left) ∙ if-< _ _ (c .if3 .taken))
+
+add-check-flags : tie.Need-add-check-flags
+add-check-flags c = search needs
+
+shared-slice-read-check-flags : tie.Need-shared-slice-read-check-flags
+shared-slice-read-check-flags c = search needs
+
+sub-check-flags : tie.Need-sub-check-flags
+sub-check-flags c = search needs
+
+sub-check-flags-2 : tie.Need-sub-check-flags-2
+sub-check-flags-2 c = search needs
+
+check-flags-requires : tie.Need-check-flags-requires
+check-flags-requires c κs = search needs
+
+enum-known-check : tie.Need-enum-known-check
+enum-known-check c = search needs
+
+enum-told : tie.Need-enum-told
+enum-told c = search needs
+
+read-flow-requires : tie.Need-read-flow-requires
+read-flow-requires c κs = search needs
+
+read-segment-requires : tie.Need-read-segment-requires
+read-segment-requires c κs = search needs
+
+returns-4 : tie.Need-returns-4
+unfolding rows9to10
+returns-4 c =
+    let k = c .before .before .before in
+    let m = k .before .before in
+    let a = m .before .before .before .before .before .args in
+    sym (refused-row10 (a .s .now) (a .h) (a .t) (m .before .before .before .if1 .left) (m .before .if2 .left) (m .if3 .left) _
+    (sym (k .check-flags .ensures) ∙ c .before .check .given .1))
+
+returns-5 : tie.Need-returns-5
+unfolding rows9to10
+returns-5 c =
+    let k = c .before .before .before .before in
+    let m = k .before .before in
+    let a = m .before .before .before .before .before .args in
+    (λ i. Tcp (c .before .read-flow .ensures i) (c .read-segment .ensures i))
+    ∙ sym (past-row10 (a .s .now) (a .h) (a .t) (m .before .before .before .if1 .left) (m .before .if2 .left) (m .if3 .left)
+    (sym (k .check-flags .ensures) ∙ c .before .before .enum-told .given .1))
+
+pub read-tcp-spec : {M : Type 1} → statement M
+read-tcp-spec =
+    tie.close
+    (tie.spec
+    sub-if1
+    returns
+    add-offset
+    shared-slice-read-offset
+    cast-offset
+    mul-offset
+    returns-2
+    sub-if3
+    returns-3
+    add-check-flags
+    shared-slice-read-check-flags
+    sub-check-flags
+    sub-check-flags-2
+    check-flags-requires
+    enum-known-check
+    enum-told
+    read-flow-requires
+    read-segment-requires
+    returns-4
+    returns-5)

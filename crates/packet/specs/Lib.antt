@@ -1,0 +1,3 @@
+pub mod Header
+pub mod Sum
+pub mod Read

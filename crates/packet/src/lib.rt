@@ -1,0 +1,232 @@
+// Reads an IPv4 packet with one TCP segment: answers 5 to 10 of document 01, or the flow and the segment.
+ghost use mathlib.Core.Path.{_≡_};
+ghost use Prim.Native.Nat.{_+_, _*_, _%_, _≤_, _<_};
+ghost use lib.ListN.{length, getD};
+ghost use Rattle.segment.specs.Flags.{control};
+ghost use Rattle.packet.specs.Header.{dataOffset, controlBits};
+ghost use Rattle.packet.specs.Sum.{onesSum, wordSum};
+ghost use Rattle.packet.specs.Read.{flowOf, segmentOf, payload, row10, afterRow10, rows9to10, rows6to10, readPacket, causeNumber};
+use octets::read16;
+use octets::read32;
+use segment::Segment;
+use serial::OctetCount;
+use serial::SeqNum;
+
+// Addresses and ports, the sender's first.
+pub struct Flow {
+    pub source: u32,
+    pub destination: u32,
+    pub sport: u16,
+    pub dport: u16,
+}
+
+// Why a packet is refused.
+pub enum Cause {
+    // 5: under 20 bytes.
+    Short,
+    // 5: version not 4.
+    Version,
+    // 5: header length under 20.
+    HeaderLength,
+    // 5: total length below header length.
+    TotalBelowHeader,
+    // 5: total length above the bytes given.
+    TotalAboveGiven,
+    // 6: the header's ones' complement 16-bit sum is not ffff.
+    HeaderSum,
+    // 7: more-fragments set or fragment offset not 0.
+    Fragment,
+    // 8: protocol is not 6.
+    Protocol,
+    // 9: under 20 bytes follow the IP header within total length.
+    TcpShort,
+    // 9: TCP data offset under 5 words.
+    OffsetBelowFive,
+    // 9: TCP data offset past total length.
+    OffsetPastTotal,
+    // 10: SYN with FIN or RST.
+    SynFinRst,
+    // 10: none of SYN, ACK, RST.
+    NoSynAckRst,
+    // 10: SYN with payload.
+    SynPayload,
+}
+
+pub enum PacketRead {
+    Refused(Cause),
+    Tcp(Flow, Segment),
+}
+
+// What row 10 says of the flags.
+enum FlagCheck {
+    Fine,
+    Bad(Cause),
+}
+
+impl Cause {
+    // The answer that document 01 numbers.
+    pub fn number(self) -> u32
+        ensures { λ r. ⌜ r ≡ causeNumber self ⌝ }
+    {
+        match self {
+            Cause::Short => 5,
+            Cause::Version => 5,
+            Cause::HeaderLength => 5,
+            Cause::TotalBelowHeader => 5,
+            Cause::TotalAboveGiven => 5,
+            Cause::HeaderSum => 6,
+            Cause::Fragment => 7,
+            Cause::Protocol => 8,
+            Cause::TcpShort => 9,
+            Cause::OffsetBelowFive => 9,
+            Cause::OffsetPastTotal => 9,
+            Cause::SynFinRst => 10,
+            Cause::NoSynAckRst => 10,
+            Cause::SynPayload => 10,
+        }
+    }
+}
+
+// The sum of a header's 16-bit words; a header has at most 30.
+fn word_sum(header: &[u8]) -> u32
+    requires { ⌜ (length (now header) % 2 ≡ 0) × (length (now header) ≤ 60) ⌝ }
+    ensures { λ r. ⌜ (r ≡ wordSum (now (header .entry))) × (r ≤ 1966080) ⌝ }
+{
+    let mut sum: u32 = 0;
+    let mut i = 0;
+    while i < header.len() {
+        sum += read16(header, i) as u32;
+        i += 2;
+    }
+    sum
+}
+
+// The ones' complement sum of a header's 16-bit words.
+fn header_sum(header: &[u8]) -> u32
+    requires { ⌜ (length (now header) % 2 ≡ 0) × (length (now header) ≤ 60) ⌝ }
+    ensures { λ r. ⌜ r ≡ onesSum (now (header .entry)) ⌝ }
+{
+    let sum = word_sum(header);
+    let once = sum % 65536 + sum / 65536;
+    once % 65536 + once / 65536
+}
+
+// Row 10 for a segment with n payload octets.
+fn check_flags(flags: u8, n: usize) -> FlagCheck
+    ensures { λ r. ⌜ r ≡ row10 flags n ⌝ }
+{
+    // RST, SYN and FIN, from the highest bit down.
+    let low = flags % 8;
+    match low {
+        0..=1 => {
+            if flags / 16 % 2 == 0 {
+                return FlagCheck::Bad(Cause::NoSynAckRst);
+            }
+            FlagCheck::Fine
+        }
+        2 => {
+            if n == 0 {
+                return FlagCheck::Fine;
+            }
+            FlagCheck::Bad(Cause::SynPayload)
+        }
+        4..=5 => FlagCheck::Fine,
+        _ => FlagCheck::Bad(Cause::SynFinRst),
+    }
+}
+
+// FIN, SYN, RST and ACK alone.
+fn control_bits(flags: u8) -> u8
+    ensures { λ r. ⌜ r ≡ control flags ⌝ }
+{
+    flags % 2 + 2 * (flags / 2 % 2) + 4 * (flags / 4 % 2) + 16 * (flags / 16 % 2)
+}
+
+fn read_flow(s: &[u8], h: usize) -> Flow
+    requires { ⌜ (20 ≤ h) × (h + 20 ≤ length (now s)) ⌝ }
+    ensures { λ r. ⌜ r ≡ flowOf (now (s .entry)) h ⌝ }
+{
+    Flow {
+        source: read32(s, 12),
+        destination: read32(s, 16),
+        sport: read16(s, h),
+        dport: read16(s, h + 2),
+    }
+}
+
+fn read_segment(s: &[u8], h: usize, t: usize) -> Segment
+    requires { ⌜ (h + 20 ≤ t) × (t ≤ length (now s)) × (t < 65536) × (h + dataOffset (now s) h ≤ t) ⌝ }
+    ensures { λ r. ⌜ r ≡ segmentOf (now (s .entry)) h t ⌝ }
+{
+    let flags = s[h + 13];
+    let n = t - h - s[h + 12] as usize / 16 * 4;
+    Segment {
+        seq: SeqNum(read32(s, h + 4)),
+        ack: SeqNum(read32(s, h + 8)),
+        window: OctetCount(read16(s, h + 14) as u32),
+        flags: control_bits(flags),
+        octets: OctetCount(n as u32 + (flags / 2 % 2) as u32 + (flags % 2) as u32),
+    }
+}
+
+fn read_tcp(s: &[u8], h: usize, t: usize) -> PacketRead
+    requires { ⌜ (20 ≤ h) × (h ≤ t) × (t ≤ length (now s)) × (t < 65536) ⌝ }
+    ensures { λ r. ⌜ r ≡ rows9to10 (now (s .entry)) h t ⌝ }
+{
+    if t - h < 20 {
+        return PacketRead::Refused(Cause::TcpShort);
+    }
+    let offset = s[h + 12] as usize / 16 * 4;
+    if offset < 20 {
+        return PacketRead::Refused(Cause::OffsetBelowFive);
+    }
+    if t - h < offset {
+        return PacketRead::Refused(Cause::OffsetPastTotal);
+    }
+    let check = check_flags(s[h + 13], t - h - offset);
+    match check {
+        FlagCheck::Bad(cause) => PacketRead::Refused(cause),
+        FlagCheck::Fine => PacketRead::Tcp(read_flow(s, h), read_segment(s, h, t)),
+    }
+}
+
+fn read_ip(s: &[u8], h: usize, t: usize) -> PacketRead
+    requires { ⌜ (20 ≤ h) × (h ≤ 60) × (h % 4 ≡ 0) × (h ≤ t) × (t ≤ length (now s)) × (t < 65536) ⌝ }
+    ensures { λ r. ⌜ r ≡ rows6to10 (now (s .entry)) h t ⌝ }
+{
+    if header_sum(&s[0..h]) != 65535 {
+        return PacketRead::Refused(Cause::HeaderSum);
+    }
+    if read16(s, 6) % 16384 != 0 {
+        return PacketRead::Refused(Cause::Fragment);
+    }
+    if s[9] != 6 {
+        return PacketRead::Refused(Cause::Protocol);
+    }
+    read_tcp(s, h, t)
+}
+
+// Reads the packet in s; bytes past its total length are ignored.
+pub fn read_packet(s: &[u8]) -> PacketRead
+    ensures { λ r. ⌜ r ≡ readPacket (now (s .entry)) ⌝ }
+{
+    if s.len() < 20 {
+        return PacketRead::Refused(Cause::Short);
+    }
+    let first = s[0] as usize;
+    if first / 16 != 4 {
+        return PacketRead::Refused(Cause::Version);
+    }
+    let h = first % 16 * 4;
+    if h < 20 {
+        return PacketRead::Refused(Cause::HeaderLength);
+    }
+    let t = read16(s, 2) as usize;
+    if t < h {
+        return PacketRead::Refused(Cause::TotalBelowHeader);
+    }
+    if s.len() < t {
+        return PacketRead::Refused(Cause::TotalAboveGiven);
+    }
+    read_ip(s, h, t)
+}

@@ -1,0 +1,20 @@
+-- The control bits that the rules name (RFC 9293, 3.1); all other bits are ignored.
+use Prim.Native.Nat.{ℕ, _+_, _*_, _/_, _%_}
+use mathlib.Core.Bool.{Bool}
+use Rattle.choice.specs.Choice.{_=ᵇ_}
+
+abbrev pub fin : ℕ → ℕ
+fin f = f % 2
+
+abbrev pub syn : ℕ → ℕ
+syn f = f / 2 % 2
+
+abbrev pub rst : ℕ → ℕ
+rst f = f / 4 % 2
+
+abbrev pub ack : ℕ → ℕ
+ack f = f / 16 % 2
+
+-- the four alone, each at its place
+abbrev pub control : ℕ → ℕ
+control f = fin f + 2 * syn f + 4 * rst f + 16 * ack f
