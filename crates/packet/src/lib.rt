@@ -159,13 +159,18 @@ fn read_segment(s: &[u8], h: usize, t: usize) -> Segment
     ensures { λ r. ⌜ r ≡ segmentOf (now (s .entry)) h t ⌝ }
 {
     let flags = s[h + 13];
-    let n = t - h - s[h + 12] as usize / 16 * 4;
+    let offset = s[h + 12] as usize / 16 * 4;
+    let payload = (t - h - offset) as u32;
+    let syn = (flags / 2 % 2) as u32;
+    let fin = (flags % 2) as u32;
+    let octets = payload + syn + fin;
+    let window = read16(s, h + 14) as u32;
     Segment {
         seq: SeqNum(read32(s, h + 4)),
         ack: SeqNum(read32(s, h + 8)),
-        window: OctetCount(read16(s, h + 14) as u32),
+        window: OctetCount(window),
         flags: control_bits(flags),
-        octets: OctetCount(n as u32 + (flags / 2 % 2) as u32 + (flags % 2) as u32),
+        octets: OctetCount(octets),
     }
 }
 
