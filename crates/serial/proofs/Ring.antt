@@ -1,10 +1,13 @@
 -- Laws that relate the ring to the line, at windows up to `largestWindow` and ranges up to `largestRange`. Capital letters are
 -- places on the line: E an end, R an edge, S and A where a segment starts and what it acknowledges; W, n, K are counts.
 use Prim.Native.Nat.{ℕ, _+_, _*_, _-_, _%_, _^_, _<_, _≤_, max}
-use mathlib.Core.Path.{_≡_, sym, ap, _∙_}
+use mathlib.Core.Path.{_≡_, refl, sym, ap, _∙_}
 use mathlib.Core.Logic.{_↔_}
+use mathlib.Core.Bool.{Bool, true, false}
 use native.Mathlib.Omega.{arith}
-use Rattle.serial.specs.Ring.{wrap, ringPlus, ringMinus, standing, unwrapFrom, unwrapBelow, largestWindow, largestRange}
+use lib.Dec.{ltb}
+use borrow.Author.Tests.{ltb-true, ltb-false}
+use Rattle.serial.specs.Ring.{wrap, ringPlus, ringMinus, standing, nearest, largestWindow, largestRange}
 
 -- Wrapping
 
@@ -44,6 +47,11 @@ pub ringMinus-unique : (r x y : ℕ) → r < 2 ^ 32 → y < 2 ^ 32 → (r + y) %
 unfolding ringMinus
 ringMinus-unique r x y small small' sum = omega arith
 
+-- the same of what `standing` adds after the difference
+pub standing-unique : (r x base : ℕ) → r < 2 ^ 32 → base < 2 ^ 32 → (r + base) % 2 ^ 32 ≡ x → (r + 2 ^ 31) % 2 ^ 32 ≡ standing base x
+unfolding standing
+standing-unique r x base small small' sum = omega arith
+
 -- counted up from L, a sequence number is reached within a turn
 pub wrap-counted : (L s : ℕ) → s < 2 ^ 32 → wrap (L + ringMinus s (wrap L)) ≡ s
 unfolding wrap ringMinus
@@ -64,29 +72,42 @@ pub range-wrap : (E R W S n : ℕ) → W ≤ largestWindow → R ≤ E + largest
 range-wrap E R W S n wide span low high =
     omega (arith, past-low E W S (omega arith) low (omega arith), past-low E W R (omega arith) (omega arith) (omega arith))
 
--- the place counted from low has the sequence number s
-pub wrap-unwrapFrom : (E W s : ℕ) → W ≤ E → W ≤ 2 ^ 32 → s < 2 ^ 32 → wrap (unwrapFrom E W s) ≡ s
-unfolding unwrapFrom
-wrap-unwrapFrom E W s below small fits = ap (λ (l : ℕ). wrap (E - W + ringMinus s l)) (wrap-back E W below small) ∙ wrap-counted (E - W) s fits
+-- on the ring, so on the line, for the place S near E
+pub range-unwrap : (E R W S n : ℕ) → W ≤ largestWindow → E ≤ R → R ≤ E + largestWindow → E ≤ S + 2 ^ 31 → S < E + 2 ^ 31 → ringMinus (wrap S) (ringMinus (wrap E) W) + n ≤ ringMinus (wrap R) (ringMinus (wrap E) W) → (E ≤ S + W) × (S + n ≤ R)
+range-unwrap E R W S n wide ordered span near near' met = from-low (ltb (S + W) E) refl
+  where
+    edge : ringMinus (wrap R) (ringMinus (wrap E) W) ≡ R + W - E
+    edge = past-low E W R (omega arith) (omega arith) (omega arith)
 
--- on the ring, so on the line, at the place counted from low
-pub range-unwrap : (E R W s n : ℕ) → W ≤ largestWindow → W ≤ E → E ≤ R → R ≤ E + largestWindow → ringMinus s (ringMinus (wrap E) W) + n ≤ ringMinus (wrap R) (ringMinus (wrap E) W) → (E ≤ unwrapFrom E W s + W) × (unwrapFrom E W s + n ≤ R)
-unfolding unwrapFrom
-range-unwrap E R W s n wide below ordered span met =
-    (omega arith, omega (arith, past-low E W R (omega arith) (omega arith) (omega arith)))
+    from-low : (t : Bool) → ltb (S + W) E ≡ t → (E ≤ S + W) × (S + n ≤ R)
+    from-low true e =
+        let below = ltb-true (S + W) E e in
+        let turned : ringMinus (wrap S) (ringMinus (wrap E) W) ≡ S + 2 ^ 32 + W - E =
+        ap (λ (x : ℕ). ringMinus x (ringMinus (wrap E) W)) (sym (wrap-turn S)) ∙ past-low E W (S + 2 ^ 32) (omega arith) (omega arith) (omega arith) in
+        absurd (omega (arith, edge))
+    from-low false e =
+        let above = ltb-false (S + W) E e in
+        let start = past-low E W S (omega arith) above (omega arith) in
+        (above, omega (arith, edge))
 
 -- Bounds III and IV: the acknowledgement at or before E, by no more than K
 
 pub ack-wrap : (E A K : ℕ) → K ≤ largestRange → A ≤ E → E ≤ A + K → ringMinus (wrap E) (wrap A) ≤ K
 ack-wrap E A K small high low = omega (arith, wrap-minus E A high (omega arith))
 
-pub wrap-unwrapBelow : (E a : ℕ) → 2 ^ 32 ≤ E → a < 2 ^ 32 → wrap (unwrapBelow E a) ≡ a
-unfolding unwrapBelow wrap ringMinus
-wrap-unwrapBelow E a turned fits = omega arith
-
-pub ack-unwrap : (E a K : ℕ) → 2 ^ 32 ≤ E → ringMinus (wrap E) a ≤ K → (unwrapBelow E a ≤ E) × (E ≤ unwrapBelow E a + K)
-unfolding unwrapBelow
-ack-unwrap E a K turned met = (omega arith, omega arith)
+pub ack-unwrap : (E A K : ℕ) → K ≤ largestRange → E ≤ A + 2 ^ 31 → A < E + 2 ^ 31 → ringMinus (wrap E) (wrap A) ≤ K → (A ≤ E) × (E ≤ A + K)
+ack-unwrap E A K small near near' met = from-end (ltb E A) refl
+  where
+    from-end : (t : Bool) → ltb E A ≡ t → (A ≤ E) × (E ≤ A + K)
+    from-end true e =
+        let above = ltb-true E A e in
+        let turned : ringMinus (wrap E) (wrap A) ≡ E + 2 ^ 32 - A =
+        ap (λ (x : ℕ). ringMinus x (wrap A)) (sym (wrap-turn E)) ∙ wrap-minus (E + 2 ^ 32) A (omega arith) (omega arith) in
+        absurd (omega arith)
+    from-end false e =
+        let below = ltb-false E A e in
+        let back = wrap-minus E A below (omega arith) in
+        (below, omega arith)
 
 -- The whole number nearest
 
@@ -95,9 +116,19 @@ pub standing-wrap : (B X : ℕ) → B ≤ X + 2 ^ 31 → X < B + 2 ^ 31 → stan
 unfolding standing wrap
 standing-wrap B X near near' = omega arith
 
--- a place that meets the bounds is the nearest one
-pub nearest-unique : (E S S' : ℕ) → wrap S ≡ wrap S' → E ≤ S + largestRange → S ≤ E + largestRange → E ≤ S' + 2 ^ 31 → S' < E + 2 ^ 31 → S ≡ S'
-nearest-unique E S S' same a b c d = wrap-injective S S' same (omega arith) (omega arith)
+pub wrap-nearest : (E s : ℕ) → 2 ^ 31 ≤ E → s < 2 ^ 32 → wrap (nearest E s) ≡ s
+unfolding nearest standing wrap
+wrap-nearest E s high fits = omega arith
+
+pub nearest-near : (E s : ℕ) → 2 ^ 31 ≤ E → (E ≤ nearest E s + 2 ^ 31) × (nearest E s < E + 2 ^ 31)
+unfolding nearest standing
+nearest-near E s high = (omega arith, omega arith)
+
+-- a place within 2^31 of E is the nearest with its sequence number
+pub nearest-wrap : (E S : ℕ) → 2 ^ 31 ≤ E → E ≤ S + 2 ^ 31 → S < E + 2 ^ 31 → nearest E (wrap S) ≡ S
+nearest-wrap E S high near near' =
+    let n = nearest-near E (wrap S) high in
+    wrap-injective (nearest E (wrap S)) S (wrap-nearest E (wrap S) high (wrap-small S)) (omega arith) (omega arith)
 
 -- What a pass writes, told from the counts that the ranges compare
 

@@ -18,13 +18,9 @@ ringMinus x y = (x + 2 ^ 32 - y) % 2 ^ 32
 unfoldable pub standing : ℕ → ℕ → ℕ
 standing base x = (x + 2 ^ 31 + 2 ^ 32 - base) % 2 ^ 32
 
--- the place on the line that the sequence number s stands for where it is counted from W below E
-unfoldable pub unwrapFrom : ℕ → ℕ → ℕ → ℕ
-unwrapFrom E W s = E - W + ringMinus s (ringMinus (wrap E) W)
-
--- and where it is counted down from E
-unfoldable pub unwrapBelow : ℕ → ℕ → ℕ
-unwrapBelow E a = E - ringMinus (wrap E) a
+-- the place on the line with sequence number s that is nearest to E, for E from 2^31 on
+unfoldable pub nearest : ℕ → ℕ → ℕ
+nearest E s = E + standing (wrap E) s - 2 ^ 31
 
 -- the largest window and acknowledgement range that the laws allow for: unscaled 65,535 and 66,000, and RFC 7323's
 -- largest shift of 14

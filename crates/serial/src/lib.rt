@@ -1,7 +1,8 @@
 // Sequence numbers and octet counts, kept apart: place minus place is a count, place plus count is a place, and nothing
 // adds two places.
 ghost use mathlib.Core.Path.{_≡_};
-ghost use Rattle.serial.specs.Serial.{seqPlus, seqBack, seqMinus, larger, within};
+ghost use Rattle.serial.specs.Ring.{standing};
+ghost use Rattle.serial.specs.Serial.{seqPlus, seqBack, seqMinus, further, larger, within};
 use std::num::wrapping_add_u32;
 use std::num::wrapping_sub_u32;
 
@@ -31,6 +32,25 @@ impl SeqNum {
     {
         OctetCount(wrapping_sub_u32(self.0, other.0))
     }
+
+    // The further of a and b on the line, where each stands at the whole number nearest to this place's.
+    pub fn further(self, a: SeqNum, b: SeqNum) -> SeqNum
+        ensures { λ r. ⌜ r ≡ further self a b ⌝ }
+    {
+        let from = standing(self, a);
+        let to = standing(self, b);
+        if from < to {
+            return b;
+        }
+        a
+    }
+}
+
+// Where x stands seen from base, counted from 2^31 below base.
+fn standing(base: SeqNum, x: SeqNum) -> u32
+    ensures { λ r. ⌜ r ≡ standing (base .0) (x .0) ⌝ }
+{
+    wrapping_add_u32(wrapping_sub_u32(x.0, base.0), 2147483648)
 }
 
 impl OctetCount {
