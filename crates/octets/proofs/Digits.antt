@@ -1,10 +1,10 @@
 -- Laws of positional notation, for every base and width.
 use Prim.Native.Nat.{ℕ, zero, suc, _+_, _*_, _/_, _%_, _^_, _≤_, _<_}
-use mathlib.Core.Path.{_≡_, refl, sym, ap, _∙_}
-use mathlib.Core.List.{List, [], _∷_, _++_, append-assoc, append-nil}
+use mathlib.Core.Path.{_≡_, refl, sym, _∙_}
+use mathlib.Core.List.{List, [], _∷_, _++_, map, map-append, append-assoc, append-nil}
 use native.Mathlib.Omega.{arith}
 use native.Mathlib.Numerals.{add-one}
-use native.Mathlib.Nat.{div-add-mod', div-lt-iff-lt-mul, pow-zero, pow-suc, add-zero, add-suc, add-mul, add-assoc, mul-assoc, div-eq-of-lt, mod-eq-of-lt, mul-add-div-right, mul-add-mod-self-right}
+use native.Mathlib.Nat.{div-add-mod', div-lt-iff-lt-mul, pow-zero, pow-suc, add-zero, add-suc, add-mul, one-mul, mul-le-mul-right, add-assoc, mul-assoc, div-eq-of-lt, mod-eq-of-lt, mul-add-div-right, mul-add-mod-self-right}
 use lib.ListN.{length, getD, take, drop, length-append, length-drop, List·getD-append}
 use lib.Seq.{take-suc, getD-at, getD-drop}
 use Rattle.octets.specs.Digits.{tabulate, number, digits}
@@ -21,6 +21,11 @@ unfolding tabulate
 tabulate-cong f g zero same = refl
 tabulate-cong f g (suc n) same =
     rw (tabulate-cong f g n (λ i h. same i (omega arith)), same n (omega arith))
+
+pub map-tabulate : (g f : ℕ → ℕ) (n : ℕ) → map g (tabulate f n) ≡ tabulate (λ i. g (f i)) n
+unfolding tabulate
+map-tabulate g f zero = refl
+map-tabulate g f (suc n) = map-append g (tabulate f n) (f n ∷ []) ∙ rw (map-tabulate g f n)
 
 -- a part of a list, tabulated by its places
 pub tabulate-getD : (l : List ℕ) (at n : ℕ) → at + n ≤ length l → tabulate (λ i. getD l (at + i) 0) n ≡ take n (drop at l)
@@ -43,6 +48,14 @@ unfolding number
 number-cong base f g zero same = refl
 number-cong base f g (suc n) same =
     rw (number-cong base f g n (λ i h. same i (omega arith)), same n (omega arith))
+
+pub number<base^n : (base : ℕ) (f : ℕ → ℕ) (n : ℕ) → ((i : ℕ) → i < n → f i < base) → number base f n < base ^ n
+unfolding number
+number<base^n base f zero small = rw pow-zero (omega arith)
+number<base^n base f (suc n) small =
+    let front : (number base f n + 1) * base ≤ base ^ n * base =
+    mul-le-mul-right base (rw add-one (number<base^n base f n (λ i h. small i (omega arith)))) in
+    rw pow-suc (omega (arith, small n (omega arith), rw (add-mul, one-mul) at front))
 
 -- the digits of a number stand for it
 pub number-digits : (base n v : ℕ) → 0 < base → v < base ^ n → number base (λ i. getD (digits base n v) i 0) n ≡ v

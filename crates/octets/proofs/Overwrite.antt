@@ -3,11 +3,13 @@ use Prim.Native.Nat.{ℕ, suc, _+_, _≤_, _<_}
 use mathlib.Core.Path.{_≡_, refl, sym, ap, _∙_}
 use mathlib.Core.List.{List, [], _∷_, _++_, append-assoc}
 use native.Mathlib.Omega.{arith}
-use native.Mathlib.Nat.{add-zero}
+use native.Mathlib.Nat.{add-zero, zero-add}
 use native.Mathlib.Numerals.{add-one}
 use lib.ListN.{length, take, drop, set, length-append, length-drop, take-append-drop}
-use lib.Seq.{length-take-le, take-at, drop-at, drop-drop, set-split, take-all, take-append-seam}
+use lib.Seq.{length-take-le, take-at, drop-at, drop-drop, set-split, take-set-le, take-append-seam}
+use Rattle.octets.specs.Digits.{tabulate}
 use Rattle.octets.specs.Overwrite.{overwrite}
+use Rattle.octets.proofs.Digits.{length-tabulate}
 
 pub overwrite-nothing : (l : List ℕ) (at : ℕ) → overwrite l at [] ≡ l
 unfolding overwrite
@@ -68,6 +70,25 @@ module _ (l : List ℕ) (at : ℕ) (vs : List ℕ) (fits : at + length vs ≤ le
 -- the same, where the first part's length is told by an equation
 pub overwrite-join : (l : List ℕ) (at n : ℕ) (vs ws : List ℕ) → length vs ≡ n → at + n ≤ length l → overwrite (overwrite l at vs) (at + n) ws ≡ overwrite l at (vs ++ ws)
 overwrite-join l at n vs ws e fits = rw (← e) (overwrite-append l at vs (rw e fits) ws)
+
+-- a store just past a part that is still to be written makes that part one longer
+pub overwrite-set : (l : List ℕ) (at n v : ℕ) (vs : List ℕ) → length vs ≡ n → at + n < length l → overwrite (set l (at + n) v) at vs ≡ overwrite l at (vs ++ (v ∷ []))
+unfolding overwrite
+overwrite-set l at n v vs e fits =
+    let head : take at (set l (at + n) v) ≡ take at l = take-set-le at l (at + n) v (omega arith) in
+    let tail : drop (at + n) (set l (at + n) v) ≡ v ∷ drop (suc (at + n)) l =
+    rw (set-split l (at + n) v fits)
+    (drop-at (take (at + n) l) (v ∷ drop (suc (at + n)) l) (at + n) (length-take-le (at + n) l (omega arith))) in
+    let end : at + length (vs ++ (v ∷ [])) ≡ suc (at + n) = simp length-append (omega arith) in
+    rw (e, head, tail, end) (simp append-assoc)
+
+-- a front that grows by one place at a time
+pub overwrite-tabulate : (l : List ℕ) (f : ℕ → ℕ) (i : ℕ) → i < length l → set (overwrite l 0 (tabulate f i)) i (f i) ≡ overwrite l 0 (tabulate f (i + 1))
+unfolding tabulate
+overwrite-tabulate l f i h =
+    let size : 0 + length (tabulate f i) ≤ length l = rw (length-tabulate f i) (omega arith) in
+    set≡overwrite (overwrite l 0 (tabulate f i)) i (f i) (rw (length-overwrite l 0 (tabulate f i) size) h)
+    ∙ rw add-one (rw zero-add at (overwrite-join l 0 i (tabulate f i) (f i ∷ []) (length-tabulate f i) (omega arith)))
 
 -- two stores, side by side
 pub set-set≡overwrite : (l : List ℕ) (at v w : ℕ) → at + 2 ≤ length l → set (set l at v) (at + 1) w ≡ overwrite l at (v ∷ w ∷ [])

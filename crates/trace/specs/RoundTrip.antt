@@ -1,0 +1,30 @@
+-- What it means that reading undoes writing, and writing undoes reading (document 00, demand 2).
+use Prim.Native.Nat.{ℕ, _+_, _*_}
+use mathlib.Core.Path.{_≡_}
+use mathlib.Core.List.{List}
+use lib.ListN.{length, take}
+use Rattle.trace.specs.Line.{sideOf, clockOf}
+use Rattle.trace.specs.Read.{readLine, packetAfter}
+use Rattle.trace.specs.Write.{writeLine, lineAfter}
+use Rattle.trace.specs.declared.LineRead.the-variants.{Frame}
+use Rattle.trace.specs.declared.LineWrite.the-variants.{Written}
+
+-- the first n characters of `line` after side, clock and packet were written to it
+abbrev pub charactersWritten : ℕ → ℕ → ℕ → List ℕ → List ℕ → List ℕ
+charactersWritten n side clock packet line = take n (lineAfter (writeLine side clock (length packet) (length line)) side clock packet line)
+
+-- the first n bytes of `out` after the line l was read to it
+abbrev pub bytesRead : ℕ → List ℕ → List ℕ → List ℕ
+bytesRead n l out = take n (packetAfter (readLine l (length out)) l out)
+
+-- side, clock and packet are written to `line`, and the line l that then stands there is read to `out`: they are what is read
+pub record ReadWritten (side clock : ℕ) (packet line l out : List ℕ) : Type 0 where
+  pub written : writeLine side clock (length packet) (length line) ≡ Written (15 + 2 * length packet)
+  pub frame : readLine l (length out) ≡ Frame side clock (length packet)
+  pub bytes : bytesRead (length packet) l out ≡ packet
+
+-- the line l is read to `out`, and the n packet bytes that then stand there are written to `line`: the line is what is written
+pub record WriteRead (l : List ℕ) (n : ℕ) (out packet line : List ℕ) : Type 0 where
+  pub frame : readLine l (length out) ≡ Frame (sideOf l) (clockOf l) n
+  pub written : writeLine (sideOf l) (clockOf l) (length packet) (length line) ≡ Written (length l)
+  pub characters : charactersWritten (length l) (sideOf l) (clockOf l) packet line ≡ l

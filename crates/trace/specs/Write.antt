@@ -1,0 +1,36 @@
+-- Writing a line (document 01, "Trace lines"): refusals 1, 2, 24, 23 in this order, or the line.
+use Prim.Native.Nat.{ℕ, _+_, _*_, _^_}
+use mathlib.Core.List.{List}
+use lib.ListN.{length}
+use Rattle.choice.specs.Choice.{if_then_else_, _<ᵇ_, _≤ᵇ_, _=ᵇ_}
+use Rattle.octets.specs.Overwrite.{overwrite}
+use Rattle.trace.specs.Line.{lineOf}
+use Rattle.trace.specs.declared.LineWrite.{LineWrite}
+use Rattle.trace.specs.declared.LineWrite.the-variants.{UnknownSide, ClockTooLarge, PacketLength, NoSpace, Written}
+use Rattle.trace.specs.declared.WriteAnswer.{WriteAnswer}
+
+-- what writing a packet of n bytes gives, with room for so many characters
+unfoldable pub writeLine : ℕ → ℕ → ℕ → ℕ → LineWrite
+writeLine side clock n room =
+    if 1 <ᵇ side then UnknownSide
+    else if 2 ^ 48 ≤ᵇ clock then ClockTooLarge
+    else if n =ᵇ 0 then PacketLength
+    else if 2048 <ᵇ n then PacketLength
+    else if room <ᵇ 15 + 2 * n then NoSpace
+    else Written (15 + 2 * n)
+
+-- what the output holds after that answer: the line and, past it, what it held before; on a refusal all as it was
+unfoldable pub lineAfter : LineWrite → ℕ → ℕ → List ℕ → List ℕ → List ℕ
+lineAfter UnknownSide side clock packet out = out
+lineAfter ClockTooLarge side clock packet out = out
+lineAfter PacketLength side clock packet out = out
+lineAfter NoSpace side clock packet out = out
+lineAfter (Written n) side clock packet out = overwrite out 0 (lineOf side clock packet)
+
+-- document 01's number and length for each case
+unfoldable pub writeAnswer : LineWrite → WriteAnswer
+writeAnswer UnknownSide = record { number = 1; length = 0 }
+writeAnswer ClockTooLarge = record { number = 2; length = 0 }
+writeAnswer PacketLength = record { number = 24; length = 0 }
+writeAnswer NoSpace = record { number = 23; length = 0 }
+writeAnswer (Written n) = record { number = 0; length = n }
