@@ -13,6 +13,12 @@ pub if-false : {A : Type 0} (t : Bool) (x y : A) → t ≡ false → (if t then 
 unfolding if_then_else_
 if-false t x y e = rw e
 
+-- what holds of both lines holds of the one taken
+pub if-either : {A : Type 0} (P : A → Type 0) (t : Bool) (x y : A) → P x → P y → P (if t then x else y)
+unfolding if_then_else_
+if-either P true x y a b = a
+if-either P false x y a b = b
+
 -- a test that holds takes the line, one that does not goes on to the next
 module _ {A : Type 0} {a b : ℕ} (x y : A) where
   pub if-< : a < b → (if a <ᵇ b then x else y) ≡ x

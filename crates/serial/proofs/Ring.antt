@@ -15,6 +15,10 @@ pub wrap-small : (X : ℕ) → wrap X < 2 ^ 32
 unfolding wrap
 wrap-small X = omega arith
 
+pub wrap-id : (s : ℕ) → s < 2 ^ 32 → wrap s ≡ s
+unfolding wrap
+wrap-id s fits = omega arith
+
 -- a turn of the ring
 pub wrap-turn : (X : ℕ) → wrap (X + 2 ^ 32) ≡ wrap X
 unfolding wrap
@@ -24,6 +28,11 @@ wrap-turn X = omega arith
 pub wrap-injective : (X Y : ℕ) → wrap X ≡ wrap Y → X < Y + 2 ^ 32 → Y < X + 2 ^ 32 → X ≡ Y
 unfolding wrap
 wrap-injective X Y same near near' = omega arith
+
+-- counted on from a place a turn up
+pub turn-up : (s : ℕ) → ringPlus s 1 ≡ wrap (s + 2 ^ 32 + 1)
+unfolding wrap ringPlus
+turn-up s = omega arith
 
 pub wrap-plus : (X n : ℕ) → ringPlus (wrap X) n ≡ wrap (X + n)
 unfolding wrap ringPlus
