@@ -18,3 +18,15 @@ ack f = f / 16 % 2
 -- the four alone, each at its place
 abbrev pub control : ℕ → ℕ
 control f = fin f + 2 * syn f + 4 * rst f + 16 * ack f
+
+-- flags of one kind of segment each
+
+abbrev pub SYN : ℕ
+SYN = 2
+
+abbrev pub SYN+ACK : ℕ
+SYN+ACK = 18
+
+-- without FIN
+abbrev pub ACK+RST : ℕ
+ACK+RST = 20

@@ -1,0 +1,41 @@
+-- Field by field; the opener's record is the one read.
+use Prim.Native.Nat.{_+_}
+use mathlib.Core.Path.{ap, _∙_}
+use mathlib.Core.List.{[], _∷_}
+use native.Mathlib.Omega.{arith}
+use Rattle.connection.specs.Ends.{granted}
+use Rattle.connection.specs.Decision.{answered}
+use Rattle.connection.specs.declared.End.{End}
+use borrow.Author.Needs.{needs}
+use Rattle.connection.proofs.Connection.answered.Statement.{statement}
+use Rattle.connection.proofs.Connection.answered.Tie as tie
+
+element-copy-out-opener : tie.Need-element-copy-out-opener
+element-copy-out-opener c = search needs
+
+granted-requires : tie.Need-granted-requires
+granted-requires c κs = search needs
+
+opening-requires : tie.Need-opening-requires
+opening-requires c κs = search needs
+
+life-requires : tie.Need-life-requires
+life-requires c κs = search needs
+
+add-deadline : tie.Need-add-deadline
+add-deadline c = search needs
+
+returns : tie.Need-returns
+unfolding answered
+returns c = cc
+
+pub answered-spec : {M : Type 1} → statement M
+answered-spec =
+    tie.close
+    (tie.spec
+    element-copy-out-opener
+    granted-requires
+    opening-requires
+    life-requires
+    add-deadline
+    returns)

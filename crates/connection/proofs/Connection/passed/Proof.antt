@@ -1,0 +1,55 @@
+use mathlib.Core.Path.{sym, _∙_}
+use Rattle.choice.proofs.Choice.{if-=, if-=-not, if-≠, if-≠-not}
+use Rattle.connection.specs.Decision.{passed}
+use borrow.Author.Needs.{needs}
+use Rattle.connection.proofs.Connection.passed.Statement.{statement}
+use Rattle.connection.proofs.Connection.passed.Tie as tie
+
+no-connection-requires : tie.Need-no-connection-requires
+no-connection-requires c κs = search needs
+
+returns : tie.Need-returns
+unfolding passed
+returns c = c .no-connection .ensures ∙ sym (if-= _ _ (c .before .if1 .taken))
+
+carried-requires : tie.Need-carried-requires
+carried-requires c κs = search needs
+
+returns-2 : tie.Need-returns-2
+unfolding passed
+returns-2 c =
+    let k = c .before in
+    c .carried .ensures ∙ sym (if-=-not _ _ (k .before .if1 .left) ∙ if-≠ _ _ (k .if2 .taken))
+
+repeated-requires : tie.Need-repeated-requires
+repeated-requires c κs = search needs
+
+returns-3 : tie.Need-returns-3
+unfolding passed
+returns-3 c =
+    let k = c .before in
+    let m = k .before in
+    c .repeated .ensures ∙ sym (if-=-not _ _ (m .before .if1 .left) ∙ if-≠-not _ _ (m .if2 .left) ∙ if-= _ _ (k .if3 .taken))
+
+answered-requires : tie.Need-answered-requires
+answered-requires c κs = search needs
+
+returns-4 : tie.Need-returns-4
+unfolding passed
+returns-4 c =
+    let k = c .before in
+    let m = k .before in
+    c .answered .ensures ∙ sym (if-=-not _ _ (m .before .if1 .left) ∙ if-≠-not _ _ (m .if2 .left) ∙ if-=-not _ _ (k .if3 .left))
+
+pub passed-spec : {M : Type 1} → statement M
+passed-spec =
+    tie.close
+    (tie.spec
+    no-connection-requires
+    returns
+    carried-requires
+    returns-2
+    repeated-requires
+    returns-3
+    answered-requires
+    returns-4)

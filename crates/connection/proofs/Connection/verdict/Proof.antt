@@ -1,0 +1,23 @@
+use mathlib.Core.Path.{sym, _∙_}
+use Rattle.choice.proofs.Choice.{if-=, if-=-not}
+use Rattle.connection.specs.Decision.{verdictOn}
+use borrow.Author.Needs.{needs}
+use Rattle.connection.proofs.Connection.verdict.Statement.{statement}
+use Rattle.connection.proofs.Connection.verdict.Tie as tie
+
+unanswered-requires : tie.Need-unanswered-requires
+unanswered-requires c κs = search needs
+
+returns : tie.Need-returns
+unfolding verdictOn
+returns c = c .unanswered .ensures ∙ sym (if-= _ _ (c .before .if1 .taken))
+
+ranges-requires : tie.Need-ranges-requires
+ranges-requires c κs = search needs
+
+returns-2 : tie.Need-returns-2
+unfolding verdictOn
+returns-2 c = c .ranges .ensures ∙ sym (if-=-not _ _ (c .before .if1 .left))
+
+pub verdict-spec : {M : Type 1} → statement M
+verdict-spec = tie.close (tie.spec unanswered-requires returns ranges-requires returns-2)

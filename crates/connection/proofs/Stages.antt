@@ -1,0 +1,28 @@
+-- The test for 1 or 2, of stages and of FIN bits, and numbers that are no stage.
+use Prim.Native.Nat.{ℕ, _≤_, _<_}
+use mathlib.Core.Path.{_≡_, refl, _∙_}
+use mathlib.Core.Bool.{Bool, true, false, _&&_}
+use native.Mathlib.Omega.{arith}
+use borrow.Author.Tests.{le-leb, lt-leb, leb-true}
+use Rattle.choice.specs.Choice.{_≤ᵇ_}
+use Rattle.choice.proofs.Choice.{if-false, if-=-not}
+use Rattle.connection.specs.Stages.{lifeOf}
+
+pub one-or-two : (x : ℕ) → 1 ≤ x → x < 3 → ((1 ≤ᵇ x) && (x ≤ᵇ 2)) ≡ true
+one-or-two x low high = rw (le-leb 1 x low, le-leb x 2 (omega arith))
+
+pub not-one-or-two : (x : ℕ) → (1 ≤ x → 3 ≤ x) → ((1 ≤ᵇ x) && (x ≤ᵇ 2)) ≡ false
+not-one-or-two x outside = go (1 ≤ᵇ x) refl
+  where
+    go : (t : Bool) → (1 ≤ᵇ x) ≡ t → (t && (x ≤ᵇ 2)) ≡ false
+    go true e = lt-leb x 2 (outside (leb-true 1 x e))
+    go false e = refl
+
+-- outside 1 to 5 there is no life
+pub lifeOf-outside : (stage : ℕ) → (1 ≤ stage → 5 < stage) → lifeOf stage ≡ 0
+unfolding lifeOf
+lifeOf-outside stage outside =
+    if-false _ _ _ (not-one-or-two stage (λ low. omega (arith, outside low)))
+    ∙ if-=-not _ _ (λ (e : stage ≡ 3). omega (arith, outside (omega arith)))
+    ∙ if-=-not _ _ (λ (e : stage ≡ 4). omega (arith, outside (omega arith)))
+    ∙ if-=-not _ _ (λ (e : stage ≡ 5). omega (arith, outside (omega arith)))

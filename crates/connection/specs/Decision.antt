@@ -1,0 +1,103 @@
+-- The decision on a matched connection (document 01, rows 13 to 15 and 0) and the connection that a pass leaves.
+use Prim.Native.Nat.{ℕ, _+_}
+use mathlib.Core.Bool.{_&&_, _||_, not}
+use mathlib.Core.List.{[], _∷_}
+use lib.ListN.{set}
+use Rattle.choice.specs.Choice.{if_then_else_, _=ᵇ_, _≠ᵇ_}
+use Rattle.serial.specs.Serial.{seqBack, larger}
+use Rattle.segment.specs.Flags.{rst, ack, SYN, SYN+ACK, ACK+RST}
+use Rattle.segment.specs.declared.Segment.{Segment}
+use Rattle.connection.specs.Ends.{octets, zeros, unheard, sender, other, effectiveWindow, granted, opening, written}
+use Rattle.connection.specs.Ranges.{sequenceMet, ackMet}
+use Rattle.connection.specs.Stages.{lifeOf, finsAfter, stageAfter}
+use Rattle.connection.specs.declared.Connection.{Connection}
+use Rattle.connection.specs.declared.End.{End}
+use Rattle.connection.specs.declared.Verdict.{Verdict}
+use Rattle.connection.specs.declared.Verdict.the-variants.{Pass, NotAllowed, SequenceMissed, AckMissed}
+
+abbrev pub opener : Connection → End
+opener c = sender (c .ends) 0
+
+-- 13: stage 1 lets through the same SYN again (no ACK, s = opener end − 1) and, from the answerer with a = opener end, either
+-- SYN+ACK or ACK+RST without FIN
+unfoldable pub verdictUnanswered : Connection → ℕ → Segment → Verdict
+verdictUnanswered c i g =
+    if i =ᵇ 0 then
+    (if g .flags ≠ᵇ SYN then NotAllowed
+    else if g .seq .0 ≠ᵇ seqBack (opener c .end) (octets 1) .0 then NotAllowed
+    else Pass)
+    else if g .ack .0 ≠ᵇ opener c .end .0 then NotAllowed
+    else if (g .flags =ᵇ SYN+ACK) || (g .flags =ᵇ ACK+RST) then Pass
+    else NotAllowed
+
+-- 14: sequence range missed; 15: ACK set, acknowledgement range missed
+unfoldable pub verdictByRanges : Connection → ℕ → Segment → Verdict
+verdictByRanges c i g =
+    if not (sequenceMet (sender (c .ends) i) (other (c .ends) i) g) then SequenceMissed
+    else if (ack (g .flags) =ᵇ 1) && not (ackMet (other (c .ends) i) g) then AckMissed
+    else Pass
+
+-- rows 13, 14, 15 and 0, for a segment of sender i
+unfoldable pub verdictOn : Connection → ℕ → Segment → Verdict
+verdictOn c i g = if c .stage =ᵇ 1 then verdictUnanswered c i g else verdictByRanges c i g
+
+-- document 01's number of each verdict
+abbrev pub verdictNumber : Verdict → ℕ
+verdictNumber Pass = 0
+verdictNumber NotAllowed = 13
+verdictNumber SequenceMissed = 14
+verdictNumber AckMissed = 15
+
+-- What a pass leaves, now being the clock used
+
+-- a freed connection: all zeros
+abbrev pub free : Connection
+free = record {
+  stage = 0;
+  side = 0;
+  fins = 0;
+  deadline = 0;
+  ends = zeros ∷ zeros ∷ [];
+}
+
+-- opening SYN: stage 1, FIN bits 0; opener end = edge = s + 1, win = max(w, 1); answerer 0, 0, 1
+unfoldable pub opened : ℕ → Segment → ℕ → Connection
+opened side g now = record { stage = 1; side = side; fins = 0; deadline = now + lifeOf 1; ends = opening g ∷ unheard ∷ [] }
+
+-- the same SYN again makes win the larger of win and w and touches no other of the six numbers
+unfoldable pub repeated : Connection → Segment → ℕ → Connection
+repeated c g now = record {
+  stage = 1;
+  side = c .side;
+  fins = 0;
+  deadline = now + lifeOf 1;
+  ends = set (c .ends) 0 (record { end = opener c .end; edge = opener c .edge; win = larger (opener c .win) (effectiveWindow g) });
+}
+
+-- SYN+ACK sets the answerer's end = edge = s + 1 and win = max(w, 1), raises the opener's edge, and gives stage 2
+unfoldable pub answered : Connection → Segment → ℕ → Connection
+answered c g now = record {
+  stage = 2;
+  side = c .side;
+  fins = 0;
+  deadline = now + lifeOf 2;
+  ends = granted (opener c) g ∷ opening g ∷ [];
+}
+
+-- from stage 2
+unfoldable pub carried : Connection → ℕ → Segment → ℕ → Connection
+carried c i g now = record {
+  stage = stageAfter (c .stage) (finsAfter (c .fins) i g) i g;
+  side = c .side;
+  fins = finsAfter (c .fins) i g;
+  deadline = now + lifeOf (stageAfter (c .stage) (finsAfter (c .fins) i g) i g);
+  ends = written (c .ends) i g;
+}
+
+-- a passed RST, in any stage, frees; else the segment's mark by stage
+unfoldable pub passed : Connection → ℕ → Segment → ℕ → Connection
+passed c i g now =
+    if rst (g .flags) =ᵇ 1 then free
+    else if c .stage ≠ᵇ 1 then carried c i g now
+    else if i =ᵇ 0 then repeated c g now
+    else answered c g now

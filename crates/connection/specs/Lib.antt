@@ -1,0 +1,5 @@
+pub mod Ends
+pub mod Ranges
+pub mod Stages
+pub mod Decision
+pub mod Sound

@@ -1,0 +1,5 @@
+pub mod Step
+pub mod Verdict
+pub mod Pass
+pub mod Demand2
+pub mod Sound

@@ -1,0 +1,128 @@
+-- A history: the segments that passed on one connection, on the unwrapped line, newest first. The last is the opening SYN.
+use Prim.Native.Nat.{ℕ, _+_, _-_, _^_, _<_, _≤_, max}
+use mathlib.Core.Path.{_≡_}
+use mathlib.Core.Bool.{Bool, _&&_, _||_, not}
+use mathlib.Core.List.{List, [], _∷_}
+use Rattle.choice.specs.Choice.{if_then_else_, _≤ᵇ_, _=ᵇ_, _≠ᵇ_}
+use Rattle.serial.specs.Ring.{wrap, nearest}
+use Rattle.segment.specs.Flags.{fin, syn, rst, ack, SYN, SYN+ACK, ACK+RST}
+use Rattle.segment.specs.declared.Segment.{Segment}
+use Rattle.connection.specs.Ends.{octets, place, effectiveWindow}
+use Rattle.connection.specs.Stages.{finsAfter, stageAfter}
+use Rattle.connection.specs.declared.Connection.{Connection}
+use Rattle.connection.specs.declared.Verdict.{Verdict}
+use Rattle.connection.specs.declared.Verdict.the-variants.{Pass, NotAllowed, SequenceMissed, AckMissed}
+use Rattle.history.specs.Numbers.{Numbers, onRing, widest, boundsI-II, boundsIII-IV}
+
+-- a segment whose numbers are places on the line; from is 0 for the opener, 1 for the answerer
+pub record LineSegment : Type 0 where
+  pub from : ℕ
+  pub flags : ℕ
+  pub start : ℕ
+  pub length : ℕ
+  pub acked : ℕ
+  pub window : ℕ
+
+-- The six numbers: maxima over the history, in which a reset counts for nothing
+
+-- the end of i's segment
+abbrev pub endBy : ℕ → LineSegment → ℕ
+endBy i g = if (g .from =ᵇ i) && (rst (g .flags) ≠ᵇ 1) then g .start + g .length else 0
+
+-- the right edge that i gets by it: a + max(w, 1) of the other end's, or, to begin with, the end of its own SYN
+abbrev pub edgeBy : ℕ → LineSegment → ℕ
+edgeBy i g =
+    if rst (g .flags) =ᵇ 1 then 0
+    else if g .from =ᵇ i then (if syn (g .flags) =ᵇ 1 then g .start + g .length else 0)
+    else if ack (g .flags) =ᵇ 1 then g .acked + max (g .window) 1
+    else 0
+
+abbrev pub windowBy : ℕ → LineSegment → ℕ
+windowBy i g = if (g .from =ᵇ i) && (rst (g .flags) ≠ᵇ 1) then g .window else 0
+
+-- highest end, highest edge and largest window; 0, 0, 1 over no segment
+unfoldable pub numbersOf : ℕ → List LineSegment → Numbers
+numbersOf i [] = record { end = 0; edge = 0; win = 1 }
+numbersOf i (g ∷ h) = record {
+  end = max (numbersOf i h .end) (endBy i g);
+  edge = max (numbersOf i h .edge) (edgeBy i g);
+  win = max (numbersOf i h .win) (windowBy i g);
+}
+
+-- FIN bits and stage, by the rules under "Stages"
+
+-- the segment as the wire has it
+abbrev pub onWire : LineSegment → Segment
+onWire g = record { seq = place (wrap (g .start)); ack = place (wrap (g .acked)); window = octets (g .window); flags = g .flags; octets = octets (g .length) }
+
+unfoldable pub finsOf : List LineSegment → ℕ
+finsOf [] = 0
+finsOf (g ∷ h) = if rst (g .flags) =ᵇ 1 then finsOf h else finsAfter (finsOf h) (g .from) (onWire g)
+
+-- 0 before the opening and once a reset has passed
+unfoldable pub stageOf : List LineSegment → ℕ
+stageOf [] = 0
+stageOf (g ∷ h) =
+    if rst (g .flags) =ᵇ 1 then 0
+    else if stageOf h =ᵇ 0 then 1
+    else if stageOf h ≠ᵇ 1 then stageAfter (stageOf h) (finsOf (g ∷ h)) (g .from) (onWire g)
+    else if g .from =ᵇ 0 then 1
+    else 2
+
+-- The next segment
+
+-- where a sequence number stands beside an end at E: at the whole number nearest. The first of a line may stand anywhere; a
+-- turn up, nothing on the line ever falls below zero
+abbrev pub standsBy : ℕ → ℕ → ℕ
+standsBy E s = if E =ᵇ 0 then s + 2 ^ 32 else nearest E s
+
+-- a segment of sender i, on the line beside the sender's end at E and the other end's at E'
+abbrev pub placedBy : ℕ → ℕ → ℕ → Segment → LineSegment
+placedBy E E' i g = record {
+  from = i;
+  flags = g .flags;
+  start = standsBy E (g .seq .0);
+  length = g .octets .0;
+  acked = standsBy E' (g .ack .0);
+  window = effectiveWindow g .0;
+}
+
+abbrev pub placed : List LineSegment → ℕ → Segment → LineSegment
+placed h i g = placedBy (numbersOf i h .end) (numbersOf (1 - i) h .end) i g
+
+-- stage 1's three segments, on the line
+unfoldable pub judgeUnanswered : List LineSegment → LineSegment → Verdict
+judgeUnanswered h p =
+    if p .from =ᵇ 0 then
+    (if p .flags ≠ᵇ SYN then NotAllowed
+    else if p .start + 1 ≠ᵇ numbersOf 0 h .end then NotAllowed
+    else Pass)
+    else if p .acked ≠ᵇ numbersOf 0 h .end then NotAllowed
+    else if (p .flags =ᵇ SYN+ACK) || (p .flags =ᵇ ACK+RST) then Pass
+    else NotAllowed
+
+-- what bounds I to IV give over the history's numbers
+unfoldable pub judge : List LineSegment → LineSegment → Verdict
+judge h p =
+    if stageOf h =ᵇ 1 then judgeUnanswered h p
+    else if not (boundsI-II (numbersOf (p .from) h) (numbersOf (1 - p .from) h) (p .start) (p .length)) then SequenceMissed
+    else if (ack (p .flags) =ᵇ 1) && not (boundsIII-IV (numbersOf (1 - p .from) h) (p .acked)) then AckMissed
+    else Pass
+
+-- The connection holds exactly those numbers modulo 2^32, and the FIN bits and stage of the history
+pub record Holds (c : Connection) (h : List LineSegment) : Type 0 where
+  pub stage : c .stage ≡ stageOf h
+  pub fins : c .fins ≡ finsOf h
+  pub ends : c .ends ≡ onRing (numbersOf 0 h) ∷ onRing (numbersOf 1 h) ∷ []
+
+-- well formed: a 16-bit window, and a SYN alone, without payload
+pub record Formed (p : LineSegment) : Type 0 where
+  pub window-fits : p .window ≤ widest
+  pub syn-alone : syn (p .flags) ≡ 1 → p .length ≡ 1
+
+-- what the packet reader gives of every segment: 32-bit numbers, a 16-bit window, and a SYN alone, without payload
+pub record Readable (g : Segment) : Type 0 where
+  pub seq-fits : g .seq .0 < 2 ^ 32
+  pub ack-fits : g .ack .0 < 2 ^ 32
+  pub window-fits : g .window .0 ≤ widest
+  pub syn-alone : syn (g .flags) ≡ 1 → g .octets .0 ≡ 1

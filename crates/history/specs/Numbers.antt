@@ -1,0 +1,46 @@
+-- The three numbers of an end on the unwrapped line, and bounds I to IV over them (document 000, with document 01's numbers).
+use Prim.Native.Nat.{ℕ, _+_, _≤_, max}
+use mathlib.Core.Bool.{Bool, _&&_}
+use Rattle.choice.specs.Choice.{_≤ᵇ_}
+use Rattle.serial.specs.Ring.{wrap}
+use Rattle.connection.specs.Ends.{octets, place}
+use Rattle.connection.specs.Ranges.{ackRange}
+use Rattle.connection.specs.declared.End.{End}
+
+-- highest sequence end, highest right edge, largest window
+pub record Numbers : Type 0 where
+  pub end : ℕ
+  pub edge : ℕ
+  pub win : ℕ
+
+-- the record that holds them modulo 2^32
+abbrev pub onRing : Numbers → End
+onRing x = record { end = place (wrap (x .end)); edge = place (wrap (x .edge)); win = octets (x .win) }
+
+-- the largest window
+abbrev pub widest : ℕ
+widest = 65535
+
+-- I and II, for n octets of sender F from S on: S + n ≤ F's edge, and F's end ≤ S + T's window
+abbrev pub boundsI-II : Numbers → Numbers → ℕ → ℕ → Bool
+boundsI-II F T S n = (F .end ≤ᵇ S + T .win) && (S + n ≤ᵇ F .edge)
+
+-- III and IV, for an acknowledgement of A: A ≤ T's end, and T's end ≤ A + 66,000
+abbrev pub boundsIII-IV : Numbers → ℕ → Bool
+boundsIII-IV T A = (A ≤ᵇ T .end) && (T .end ≤ᵇ A + ackRange)
+
+-- what a pass makes of the sender's numbers
+abbrev pub sentTo : Numbers → ℕ → ℕ → Numbers
+sentTo F end w = record { end = max (F .end) end; edge = F .edge; win = max (F .win) w }
+
+-- and of the other end's, for a right edge that it grants
+abbrev pub grantedTo : Numbers → ℕ → Numbers
+grantedTo T edge = record { end = T .end; edge = max (T .edge) edge; win = T .win }
+
+-- numbers as they stand from an end's SYN on: the edge is ahead of the end by no more than the largest window
+pub record Spans (x : Numbers) : Type 0 where
+  pub begun : 1 ≤ x .end
+  pub ordered : x .end ≤ x .edge
+  pub near : x .edge ≤ x .end + widest
+  pub win-some : 1 ≤ x .win
+  pub win-most : x .win ≤ widest

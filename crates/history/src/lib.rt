@@ -1,0 +1,1 @@
+// Definitions and theorems only: the unwrapped line that a connection's six numbers stand for.
