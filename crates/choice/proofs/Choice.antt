@@ -1,6 +1,6 @@
 -- Laws of a choice: by its test, and by the fact that the test asks for.
 use Prim.Native.Nat.{ℕ, _<_, _≤_}
-use mathlib.Core.Path.{_≡_, ap}
+use mathlib.Core.Path.{_≡_, refl, ap}
 use mathlib.Core.Bool.{Bool, true, false, not}
 use borrow.Author.Tests.{lt-ltb, le-ltb, le-leb, lt-leb, eq-eqb, ne-eqb}
 use Rattle.choice.specs.Choice.{if_then_else_, _<ᵇ_, _≤ᵇ_, _=ᵇ_, _≠ᵇ_}
@@ -18,6 +18,16 @@ pub if-either : {A : Type 0} (P : A → Type 0) (t : Bool) (x y : A) → P x →
 unfolding if_then_else_
 if-either P true x y a b = a
 if-either P false x y a b = b
+
+-- a function of a choice is the choice of its values
+pub if-ap : {A B : Type 0} (f : A → B) (t : Bool) (x y : A) → f (if t then x else y) ≡ (if t then f x else f y)
+unfolding if_then_else_
+if-ap f true x y = refl
+if-ap f false x y = refl
+
+-- equal lines after the first
+pub if-else : {A : Type 0} (t : Bool) (x : A) {y z : A} → y ≡ z → (if t then x else y) ≡ (if t then x else z)
+if-else t x e = rw e
 
 -- a test that holds takes the line, one that does not goes on to the next
 module _ {A : Type 0} {a b : ℕ} (x y : A) where

@@ -27,6 +27,10 @@ pub ||-true : (s t : Bool) → s || t ≡ true → (s ≡ true) ⊎ (t ≡ true)
 ||-true true t e = inl refl
 ||-true false t e = inr e
 
+pub ||-false : (s t : Bool) → s || t ≡ false → (s ≡ false) × (t ≡ false)
+||-false true t e = false-true (sym e)
+||-false false t e = (refl, e)
+
 -- A number between two
 
 pub between : (low high b : ℕ) → low ≤ b → b ≤ high → (low ≤ᵇ b) && (b ≤ᵇ high) ≡ true

@@ -1,5 +1,5 @@
 -- Row 10, told from the low three flag bits, which hold RST, SYN and FIN.
-use Prim.Native.Nat.{ℕ, _/_, _%_, _≤_, _<_}
+use Prim.Native.Nat.{ℕ, _%_, _≤_, _<_}
 use mathlib.Core.Path.{_≡_, refl, _∙_}
 use mathlib.Core.Bool.{Bool, true, false, _&&_, _||_, not}
 use native.Mathlib.Omega.{arith}
@@ -7,7 +7,7 @@ use lib.Dec.{eqb}
 use borrow.Author.Tests.{eq-eqb, ne-eqb}
 use Rattle.choice.specs.Choice.{if_then_else_}
 use Rattle.segment.specs.Flags.{fin, syn, rst, ack}
-use Rattle.packet.specs.Read.{row10}
+use Rattle.packet.specs.Tails.{row10}
 use Rattle.packet.specs.declared.Cause.the-variants.{SynFinRst, NoSynAckRst, SynPayload}
 use Rattle.packet.specs.declared.FlagCheck.{FlagCheck}
 use Rattle.packet.specs.declared.FlagCheck.the-variants.{Bad, Fine}
@@ -36,7 +36,7 @@ row10≡by-bits f n p q t u w = rw (p, q, t, u, w)
 bit-set : (b : ℕ) → b ≡ 1 → eqb b 1 ≡ true
 bit-set b e = eq-eqb b 1 e
 
-bit-clear : (b : ℕ) → b ≡ 0 → eqb b 1 ≡ false
+pub bit-clear : (b : ℕ) → b ≡ 0 → eqb b 1 ≡ false
 bit-clear b e = ne-eqb b 1 (λ (one : b ≡ 1). omega arith)
 
 ||-true : (b : Bool) → (b || true) ≡ true

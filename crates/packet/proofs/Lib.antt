@@ -1,3 +1,4 @@
 pub mod Sum
 pub mod Flags
 pub mod Read
+pub mod Readable

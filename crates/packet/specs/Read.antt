@@ -1,7 +1,7 @@
 -- What reading a packet gives: answers 5 to 10 of document 01 in its order, each cause apart, or the flow and the segment.
 -- p is the packet's bytes, h its header length, t its total length.
-use Prim.Native.Nat.{ℕ, _+_, _-_, _*_}
-use mathlib.Core.Bool.{Bool, _&&_, _||_, not}
+use Prim.Native.Nat.{ℕ, _+_, _-_}
+use mathlib.Core.Bool.{_&&_, _||_, not}
 use mathlib.Core.List.{List}
 use lib.ListN.{length, take}
 use Rattle.choice.specs.Choice.{if_then_else_, _<ᵇ_, _=ᵇ_, _≠ᵇ_}
@@ -12,8 +12,6 @@ use Rattle.packet.specs.Sum.{onesSum}
 use Rattle.packet.specs.declared.Flow.{Flow}
 use Rattle.packet.specs.declared.Cause.{Cause}
 use Rattle.packet.specs.declared.Cause.the-variants.{Short, Version, HeaderLength, TotalBelowHeader, TotalAboveGiven, HeaderSum, Fragment, Protocol, TcpShort, OffsetBelowFive, OffsetPastTotal, SynFinRst, NoSynAckRst, SynPayload}
-use Rattle.packet.specs.declared.FlagCheck.{FlagCheck}
-use Rattle.packet.specs.declared.FlagCheck.the-variants.{Bad, Fine}
 use Rattle.packet.specs.declared.PacketRead.{PacketRead}
 use Rattle.packet.specs.declared.PacketRead.the-variants.{Refused, Tcp}
 
@@ -33,43 +31,34 @@ segmentOf p h t = record {
   octets = record { 0 = payload p h t + syn (controlBits p h) + fin (controlBits p h) };
 }
 
--- 10: SYN with FIN or RST; none of SYN, ACK, RST; SYN with payload. f is the flags, n the payload octets
-unfoldable pub row10 : ℕ → ℕ → FlagCheck
-row10 f n =
-    if (syn f =ᵇ 1) && ((fin f =ᵇ 1) || (rst f =ᵇ 1)) then Bad SynFinRst
-    else if not ((syn f =ᵇ 1) || ((ack f =ᵇ 1) || (rst f =ᵇ 1))) then Bad NoSynAckRst
-    else if (syn f =ᵇ 1) && (n ≠ᵇ 0) then Bad SynPayload
-    else Fine
-
-abbrev pub afterRow10 : FlagCheck → PacketRead → PacketRead
-afterRow10 (Bad cause) rest = Refused cause
-afterRow10 Fine rest = rest
-
--- 9: under 20 bytes follow the IP header within total length; TCP data offset under 5 words or past total length
-unfoldable pub rows9to10 : List ℕ → ℕ → ℕ → PacketRead
-rows9to10 p h t =
-    if t - h <ᵇ 20 then Refused TcpShort
-    else if dataOffset p h <ᵇ 20 then Refused OffsetBelowFive
-    else if t - h <ᵇ dataOffset p h then Refused OffsetPastTotal
-    else afterRow10 (row10 (controlBits p h) (payload p h t)) (Tcp (flowOf p h) (segmentOf p h t))
-
--- 6: the header's ones' complement 16-bit sum is not ffff; 7: more-fragments set or fragment offset not 0; 8: protocol is not 6
-unfoldable pub rows6to10 : List ℕ → ℕ → ℕ → PacketRead
-rows6to10 p h t =
-    if onesSum (take h p) ≠ᵇ 0xffff then Refused HeaderSum
-    else if (moreFragments p =ᵇ 1) || (fragmentOffset p ≠ᵇ 0) then Refused Fragment
-    else if protocol p ≠ᵇ 6 then Refused Protocol
-    else rows9to10 p h t
-
--- 5: under 20 bytes; version not 4; header length under 20; total length below header length or above the bytes given
+-- the first line that applies wins; f is the TCP flags
 unfoldable pub readPacket : List ℕ → PacketRead
 readPacket p =
+    let h : ℕ = headerLength p in
+    let t : ℕ = totalLength p in
+    let f : ℕ = controlBits p h in
+    -- 5: under 20 bytes; version not 4; header length under 20; total length below header length or above the bytes given
     if length p <ᵇ 20 then Refused Short
     else if version p ≠ᵇ 4 then Refused Version
-    else if headerLength p <ᵇ 20 then Refused HeaderLength
-    else if totalLength p <ᵇ headerLength p then Refused TotalBelowHeader
-    else if length p <ᵇ totalLength p then Refused TotalAboveGiven
-    else rows6to10 p (headerLength p) (totalLength p)
+    else if h <ᵇ 20 then Refused HeaderLength
+    else if t <ᵇ h then Refused TotalBelowHeader
+    else if length p <ᵇ t then Refused TotalAboveGiven
+    -- 6: the header's ones' complement 16-bit sum is not ffff
+    else if onesSum (take h p) ≠ᵇ 0xffff then Refused HeaderSum
+    -- 7: more-fragments set or fragment offset not 0
+    else if (moreFragments p =ᵇ 1) || (fragmentOffset p ≠ᵇ 0) then Refused Fragment
+    -- 8: protocol is not 6
+    else if protocol p ≠ᵇ 6 then Refused Protocol
+    -- 9: under 20 bytes follow the IP header within total length; TCP data offset under 5 words or past total length
+    else if t - h <ᵇ 20 then Refused TcpShort
+    else if dataOffset p h <ᵇ 20 then Refused OffsetBelowFive
+    else if t - h <ᵇ dataOffset p h then Refused OffsetPastTotal
+    -- 10: SYN with FIN or RST; none of SYN, ACK, RST; SYN with payload
+    else if (syn f =ᵇ 1) && ((fin f =ᵇ 1) || (rst f =ᵇ 1)) then Refused SynFinRst
+    else if not ((syn f =ᵇ 1) || ((ack f =ᵇ 1) || (rst f =ᵇ 1))) then Refused NoSynAckRst
+    else if (syn f =ᵇ 1) && (payload p h t ≠ᵇ 0) then Refused SynPayload
+    -- otherwise
+    else Tcp (flowOf p h) (segmentOf p h t)
 
 -- document 01's number of each cause
 abbrev pub causeNumber : Cause → ℕ

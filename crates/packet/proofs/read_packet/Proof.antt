@@ -1,14 +1,14 @@
-use mathlib.Core.Path.{_≡_, sym, ap, _∙_}
+use mathlib.Core.Path.{sym, ap, _∙_}
 use native.Mathlib.Omega.{arith}
 use Rattle.choice.proofs.Choice.{if-<, if-<-not, if-≠, if-≠-not}
-use Rattle.packet.specs.Read.{rows6to10, readPacket}
+use Rattle.packet.specs.Tails.{rows6to10}
+use Rattle.packet.proofs.Read.{readPacket≡row5-then-tail, past-row5}
 use borrow.Author.Needs.{needs}
 use Rattle.packet.proofs.read_packet.Statement.{statement}
 use Rattle.packet.proofs.read_packet.Tie as tie
 
 returns : tie.Need-returns
-unfolding readPacket
-returns c = sym (if-< _ _ (c .if1 .taken))
+returns c = sym (readPacket≡row5-then-tail _ ∙ if-< _ _ (c .if1 .taken))
 
 shared-slice-read-first : tie.Need-shared-slice-read-first
 shared-slice-read-first c = search needs
@@ -17,16 +17,14 @@ cast-first : tie.Need-cast-first
 cast-first c = omega (arith, c .shared-slice-known2 .given 0)
 
 returns-2 : tie.Need-returns-2
-unfolding readPacket
-returns-2 c = sym (if-<-not _ _ (c .before .before .if1 .left) ∙ if-≠ _ _ (c .if2 .taken))
+returns-2 c = sym (readPacket≡row5-then-tail _ ∙ if-<-not _ _ (c .before .before .if1 .left) ∙ if-≠ _ _ (c .if2 .taken))
 
 mul-h : tie.Need-mul-h
 mul-h c = search needs
 
 returns-3 : tie.Need-returns-3
-unfolding readPacket
 returns-3 c =
-    sym (if-<-not _ _ (c .before .before .before .if1 .left) ∙ if-≠-not _ _ (c .before .if2 .left) ∙ if-< _ _ (c .if3 .taken))
+    sym (readPacket≡row5-then-tail _ ∙ if-<-not _ _ (c .before .before .before .if1 .left) ∙ if-≠-not _ _ (c .before .if2 .left) ∙ if-< _ _ (c .if3 .taken))
 
 read16-requires : tie.Need-read16-requires
 read16-requires c κs = search needs
@@ -35,27 +33,24 @@ cast-t : tie.Need-cast-t
 cast-t c = search needs
 
 returns-4 : tie.Need-returns-4
-unfolding readPacket
 returns-4 c =
     let m = c .before in
     let k = m .before in
-    sym (if-<-not _ _ (k .before .before .before .if1 .left) ∙ if-≠-not _ _ (k .before .if2 .left) ∙ if-<-not _ _ (k .if3 .left)
+    sym (readPacket≡row5-then-tail _ ∙ if-<-not _ _ (k .before .before .before .if1 .left) ∙ if-≠-not _ _ (k .before .if2 .left) ∙ if-<-not _ _ (k .if3 .left)
     ∙ if-< _ _ (rw (m .read16 .ensures) at (c .if4 .taken)))
 
 returns-5 : tie.Need-returns-5
-unfolding readPacket
 returns-5 c =
     let j = c .before in
     let m = j .before in
     let k = m .before in
-    sym (if-<-not _ _ (k .before .before .before .if1 .left) ∙ if-≠-not _ _ (k .before .if2 .left) ∙ if-<-not _ _ (k .if3 .left)
+    sym (readPacket≡row5-then-tail _ ∙ if-<-not _ _ (k .before .before .before .if1 .left) ∙ if-≠-not _ _ (k .before .if2 .left) ∙ if-<-not _ _ (k .if3 .left)
     ∙ if-<-not _ _ (rw (m .read16 .ensures) at (j .if4 .left)) ∙ if-< _ _ (rw (m .read16 .ensures) at (c .if5 .taken)))
 
 read-ip-requires : tie.Need-read-ip-requires
 read-ip-requires c κs = search needs
 
 returns-6 : tie.Need-returns-6
-unfolding readPacket
 returns-6 c =
     let i = c .before in
     let j = i .before in
@@ -63,8 +58,8 @@ returns-6 c =
     let k = m .before in
     c .read-ip .ensures
     ∙ ap (rows6to10 _ _) (m .read16 .ensures)
-    ∙ sym (if-<-not _ _ (k .before .before .before .if1 .left) ∙ if-≠-not _ _ (k .before .if2 .left) ∙ if-<-not _ _ (k .if3 .left)
-    ∙ if-<-not _ _ (rw (m .read16 .ensures) at (j .if4 .left)) ∙ if-<-not _ _ (rw (m .read16 .ensures) at (i .if5 .left)))
+    ∙ sym (past-row5 _ (k .before .before .before .if1 .left) (k .before .if2 .left) (k .if3 .left)
+    (rw (m .read16 .ensures) at (j .if4 .left)) (rw (m .read16 .ensures) at (i .if5 .left)))
 
 pub read-packet-spec : {M : Type 1} → statement M
 read-packet-spec =

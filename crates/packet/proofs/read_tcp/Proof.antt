@@ -1,8 +1,8 @@
-use mathlib.Core.Path.{sym, ap, _∙_}
+use mathlib.Core.Path.{sym, _∙_}
 use Prim.Native.Nat.{_+_}
 use native.Mathlib.Omega.{arith}
 use Rattle.choice.proofs.Choice.{if-<, if-<-not}
-use Rattle.packet.specs.Read.{rows9to10}
+use Rattle.packet.specs.Tails.{rows9to10}
 use Rattle.packet.specs.declared.PacketRead.the-variants.{Tcp}
 use Rattle.packet.proofs.Read.{refused-row10, past-row10}
 use borrow.Author.Needs.{needs}
@@ -67,7 +67,6 @@ read-segment-requires : tie.Need-read-segment-requires
 read-segment-requires c κs = search needs
 
 returns-4 : tie.Need-returns-4
-unfolding rows9to10
 returns-4 c =
     let k = c .before .before .before in
     let m = k .before .before in
@@ -76,7 +75,6 @@ returns-4 c =
     (sym (k .check-flags .ensures) ∙ c .before .check .given .1))
 
 returns-5 : tie.Need-returns-5
-unfolding rows9to10
 returns-5 c =
     let k = c .before .before .before .before in
     let m = k .before .before in
