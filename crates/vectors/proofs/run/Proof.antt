@@ -10,6 +10,9 @@ Inv-loop chunk₀ line₀ buffer₀ out₀ used₀ input₀ turns₀ chunk line 
 abbrev μ-loop : tie.MeasureT-loop
 μ-loop chunk₀ line₀ buffer₀ out₀ used₀ input₀ turns₀ chunk line buffer out used input turns = turns
 
+start-requires : tie.Need-start-requires Inv-loop μ-loop
+start-requires c κs = search needs
+
 loop-holds : tie.Need-loop-holds Inv-loop μ-loop
 loop-holds c = search needs
 
@@ -49,6 +52,7 @@ run-spec =
     (tie.spec
     Inv-loop
     μ-loop
+    start-requires
     loop-holds
     sub-turns
     next-line-requires

@@ -1,8 +1,8 @@
 -- The length stays within the line.
 use Prim.Native.Nat.{_≤_}
 use borrow.Author.Needs.{needs}
-use Rattle.vectors.proofs.next_line.Statement.{statement}
-use Rattle.vectors.proofs.next_line.Tie as tie
+use Rattle.script.proofs.next_line.Statement.{statement}
+use Rattle.script.proofs.next_line.Tie as tie
 
 abbrev Inv-loop : tie.InvT-loop
 Inv-loop chunk₀ line₀ input₀ length₀ turns₀ chunk line input length turns = length ≤ 4096

@@ -2,8 +2,8 @@
 use Prim.Native.Nat.{_≤_, _-_}
 use lib.ListN.{length}
 use borrow.Author.Needs.{needs}
-use Rattle.vectors.proofs.put_bytes.Statement.{statement}
-use Rattle.vectors.proofs.put_bytes.Tie as tie
+use Rattle.script.proofs.put_bytes.Statement.{statement}
+use Rattle.script.proofs.put_bytes.Tie as tie
 
 abbrev Inv-loop : tie.InvT-loop
 Inv-loop out₀ used bytes n₀ i₀ out n i = n ≤ 65536

@@ -2,14 +2,17 @@
 use Prim.Native.Nat.{_≤_, _-_}
 use lib.ListN.{length}
 use borrow.Author.Needs.{needs}
-use Rattle.vectors.proofs.put_fields.Statement.{statement}
-use Rattle.vectors.proofs.put_fields.Tie as tie
+use Rattle.script.proofs.put_fields.Statement.{statement}
+use Rattle.script.proofs.put_fields.Tie as tie
 
 abbrev Inv-loop : tie.InvT-loop
-Inv-loop out₀ used fields n₀ i₀ out n i = n ≤ 65536
+Inv-loop out₀ used first rest n₀ i₀ out n i = n ≤ 65536
 
 abbrev μ-loop : tie.MeasureT-loop
-μ-loop out₀ used fields n₀ i₀ out n i = length fields - i
+μ-loop out₀ used first rest n₀ i₀ out n i = length rest - i
+
+put-decimal-requires : tie.Need-put-decimal-requires Inv-loop μ-loop
+put-decimal-requires c κs = search needs
 
 loop-holds : tie.Need-loop-holds Inv-loop μ-loop
 loop-holds c = search needs
@@ -23,8 +26,8 @@ mul-put-decimal c = search needs
 shared-slice-read-put-decimal : tie.Need-shared-slice-read-put-decimal Inv-loop μ-loop
 shared-slice-read-put-decimal c = search needs
 
-put-decimal-requires : tie.Need-put-decimal-requires Inv-loop μ-loop
-put-decimal-requires c κs = search needs
+put-decimal-requires-2 : tie.Need-put-decimal-requires-2 Inv-loop μ-loop
+put-decimal-requires-2 c κs = search needs
 
 add-i : tie.Need-add-i Inv-loop μ-loop
 add-i c = search needs
@@ -44,11 +47,12 @@ put-fields-spec =
     (tie.spec
     Inv-loop
     μ-loop
+    put-decimal-requires
     loop-holds
     put-requires
     mul-put-decimal
     shared-slice-read-put-decimal
-    put-decimal-requires
+    put-decimal-requires-2
     add-i
     loop-less
     loop-again
