@@ -1,0 +1,157 @@
+-- An arrival of an honest segment at its live entry: it passes, and the entry that it leaves holds the history with it on top.
+use Prim.Native.Nat.{ℕ, zero, suc, _+_, _-_, _<_, _≤_, max}
+use mathlib.Core.Path.{_≡_, refl, sym, ap, subst, _∙_}
+use mathlib.Core.Logic.{_⊎_, inl, inr, ⊎-elim}
+use mathlib.Core.Bool.{Bool, true, false, _&&_, _||_, not}
+use mathlib.Core.List.{List, [], _∷_}
+use native.Mathlib.Omega.{arith}
+use lib.Dec.{eqb}
+use lib.ListN.{length, getD, set}
+use borrow.Author.Tests.{eqb-true, eqb-false}
+use Rattle.choice.specs.Choice.{if_then_else_, _=ᵇ_}
+use Rattle.choice.proofs.Choice.{if-true, if-false, if-either, if-=, if-=-not}
+use Rattle.segment.specs.Flags.{syn, rst, ack, SYN, SYN+ACK}
+use Rattle.segment.specs.declared.Segment.{Segment}
+use Rattle.connection.specs.Stages.{lifeOf, stageAfter, openStage}
+use Rattle.connection.specs.Decision.{verdictOn, passed, opened, carried, repeated, answered, free}
+use Rattle.connection.specs.declared.Connection.{Connection}
+use Rattle.connection.specs.declared.Verdict.{Verdict}
+use Rattle.connection.specs.declared.Verdict.the-variants.{Pass}
+use Rattle.history.specs.Numbers.{Numbers, Spans}
+use Rattle.history.specs.History.{LineSegment, numbersOf, onWire, stageOf, judge, Holds, Formed}
+use Rattle.history.proofs.Step.{Near, start-near, ack-near}
+use Rattle.history.proofs.Verdict.{Unanswered, Answered, spans, judged-answered, judged-unanswered}
+use Rattle.history.proofs.Pass.{carried-holds, carried-answered, repeated-holds, repeated-unanswered, answered-holds, answered-answered, answerer-begins}
+use Rattle.honest.specs.Filter.{Keys}
+use Rattle.honest.specs.Honest.{Event, Pair, endOf}
+use Rattle.honest.proofs.Sends.{SentWith, First, Fact, Protocol, Rises, rises-more, first-facts}
+use Rattle.honest.proofs.Bounds as Bounds
+
+-- What a pass that is no reset leaves of side and deadline
+
+pub record Renewed (c : Connection) (now : ℕ) (c' : Connection) : Type 0 where
+  pub side : c' .side ≡ c .side
+  pub deadline : c' .deadline ≡ now + lifeOf (c' .stage)
+  pub life : 1 ≤ lifeOf (c' .stage)
+
+life-1 : 1 ≤ lifeOf 1
+unfolding lifeOf if_then_else_
+life-1 = omega arith
+
+life-2 : 1 ≤ lifeOf 2
+unfolding lifeOf if_then_else_
+life-2 = omega arith
+
+life-3 : 1 ≤ lifeOf 3
+unfolding lifeOf if_then_else_
+life-3 = omega arith
+
+life-4 : 1 ≤ lifeOf 4
+unfolding lifeOf if_then_else_
+life-4 = omega arith
+
+life-5 : 1 ≤ lifeOf 5
+unfolding lifeOf if_then_else_
+life-5 = omega arith
+
+pub opened-renewed : (side : ℕ) (g : Segment) (now : ℕ) → (opened side g now .deadline ≡ now + lifeOf (opened side g now .stage)) × (1 ≤ lifeOf (opened side g now .stage))
+unfolding opened
+opened-renewed side g now = (refl, life-1)
+
+pub passed-renewed : (c : Connection) (i : ℕ) (g : Segment) (now : ℕ) → (rst (g .flags) ≡ 1 → ⊥) → Renewed c now (passed c i g now)
+unfolding passed carried repeated answered stageAfter openStage
+passed-renewed c i g now no-reset =
+    let life : ℕ → Type 0 = λ s. 1 ≤ lifeOf s in
+    rw (if-=-not {a = rst (g .flags)} {b = 1} free _ no-reset)
+    (if-either (Renewed c now) _ _ _
+    record { side = refl; deadline = refl; life = if-either life _ _ _ life-5 (if-either life _ _ _ life-4 (if-either life _ _ _ life-3 (if-either life _ _ _ life-3 life-2))) }
+    (if-either (Renewed c now) _ _ _ record { side = refl; deadline = refl; life = life-1 } record { side = refl; deadline = refl; life = life-2 }))
+
+-- Where the connection stands: only the opener's SYN has passed, or both ends' have
+
+pub data Heard {K : Keys} (P : Pair K) (h : List LineSegment) : Type 0 where
+  quiet : Unanswered h → P .start 0 + 1 ≤ numbersOf 0 h .end → Heard P h
+  both : Answered h → ((i : ℕ) → i < 2 → P .start i + 1 ≤ numbersOf i h .end) → Heard P h
+
+module _ {K : Keys} {Call : Type 0} (P : Pair K) (h : List LineSegment) (Arrived : ℕ → LineSegment → Type 0) (L : List (Event Call)) (inv : Protocol P h Arrived L) (c : Connection) (holds : Holds c h) (k : ℕ) (p : LineSegment) (s : ℕ) (sent : SentWith k p s L) where
+  fact : Fact P h p s L
+  fact = inv .facts k p s sent
+
+  pub record Passing : Type 0 where
+    pub verdict : verdictOn c (p .from) (onWire p) ≡ Pass
+    pub holds-after : (now : ℕ) → Holds (passed c (p .from) (onWire p) now) (p ∷ h)
+    pub heard-after : Heard P (p ∷ h)
+
+  -- from stage 2 on
+  module _ (in-order : (j : ℕ) (g : LineSegment) → Arrived j g → g .from ≡ p .from → j ≤ k) (a : Answered h) (begun : (i : ℕ) → i < 2 → P .start i + 1 ≤ numbersOf i h .end) where
+    other-known : 1 - p .from < 2
+    other-known = omega (arith, fact .end-known)
+
+    pass : judge h p ≡ Pass
+    pass = Bounds.judged-pass P h Arrived L inv k p s sent in-order a begun
+
+    near : Near (numbersOf (p .from) h .end) (p .start)
+    near =
+        start-near (numbersOf (p .from) h) (numbersOf (1 - p .from) h) (p .start) (p .length) (spans h a (p .from) (fact .end-known)) (spans h a (1 - p .from) other-known)
+        (Bounds.bound-II P h Arrived L inv k p s sent in-order a begun) (Bounds.bound-I P h Arrived L inv k p s sent in-order a begun)
+
+    near-ack : ack (p .flags) ≡ 1 → Near (numbersOf (1 - p .from) h .end) (p .acked)
+    near-ack acks =
+        ack-near (numbersOf (1 - p .from) h) (p .acked)
+        (Bounds.bound-III P h Arrived L inv k p s sent in-order a begun acks) (Bounds.bound-IV P h Arrived L inv k p s sent in-order a begun acks)
+
+    later-passing : Passing
+    later-passing = record {
+      verdict = judged-answered c h holds p (fact .end-known) a near near-ack ∙ pass;
+      holds-after = carried-holds c h holds p (fact .end-known) (fact .formed) (fact .no-reset) pass a;
+      heard-after = both (carried-answered c h holds p (fact .end-known) (fact .formed) (fact .no-reset) pass a) (λ i known. omega (arith, begun i known, rises-more p h .end i));
+    }
+
+  -- in stage 1
+  module _ (u : Unanswered h) (begun : P .start 0 + 1 ≤ numbersOf 0 h .end) where
+    first-pass : judge h p ≡ Pass
+    first-pass = Bounds.judged-first P h Arrived L inv u begun k p s sent
+
+    x : First P p s
+    x = Bounds.sent-first P h Arrived L inv u begun k p s sent
+
+    opener-end : numbersOf 0 h .end ≡ P .start 0 + 1
+    opener-end = Bounds.opener-end P h Arrived L inv u begun
+
+    first-verdict : verdictOn c (p .from) (onWire p) ≡ Pass
+    first-verdict =
+        judged-unanswered c h holds p (fact .end-known) u
+        (λ opener. let begins : P .start (p .from) ≡ P .start 0 = ap (P .start) opener in record { low = omega (arith, x .rule .start, opener-end); high = omega (arith, x .rule .start, opener-end) })
+        (λ answerer. record { low = omega (arith, x .rule .acks answerer, opener-end); high = omega (arith, x .rule .acks answerer, opener-end) })
+        ∙ first-pass
+
+    first-passing : Passing
+    first-passing = by-end (eqb (p .from) 0) refl
+      where
+        by-end : (t : Bool) → eqb (p .from) 0 ≡ t → Passing
+        by-end true e =
+            let opener = eqb-true (p .from) 0 e in
+            record {
+              verdict = first-verdict;
+              holds-after = repeated-holds c h holds p (fact .formed) first-pass u opener;
+              heard-after = quiet (repeated-unanswered c h holds p (fact .formed) first-pass u opener) (omega (arith, begun, rises-more p h .end 0));
+            }
+        by-end false e =
+            let answerer : p .from ≡ 1 = omega (arith, eqb-false (p .from) 0 e, fact .end-known) in
+            record {
+              verdict = first-verdict;
+              holds-after = answered-holds c h holds p (fact .formed) first-pass u answerer (fact .no-reset);
+              heard-after = both (answered-answered c h holds p (fact .formed) first-pass u answerer (fact .no-reset)) (begun-both answerer);
+            }
+          where
+            begun-both : p .from ≡ 1 → (i : ℕ) → i < 2 → P .start i + 1 ≤ numbersOf i (p ∷ h) .end
+            begun-both answerer zero known = omega (arith, begun, rises-more p h .end 0)
+            begun-both answerer (suc zero) known =
+                let end = ap (λ (n : Numbers). n .end) (answerer-begins c h holds p (fact .formed) first-pass u answerer (fact .no-reset)) in
+                let begins : P .start (p .from) ≡ P .start 1 = ap (P .start) answerer in
+                omega (arith, end, x .rule .start)
+            begun-both answerer (suc (suc i)) known = absurd (omega arith)
+
+  pub passing : ((j : ℕ) (g : LineSegment) → Arrived j g → g .from ≡ p .from → j ≤ k) → Heard P h → Passing
+  passing in-order (quiet u begun) = first-passing u begun
+  passing in-order (both a begun) = later-passing in-order a begun

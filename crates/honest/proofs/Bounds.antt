@@ -1,0 +1,178 @@
+-- Bounds I to IV at an arrival of an honest segment, and stage 1's three segments.
+use Prim.Native.Nat.{ℕ, zero, suc, _+_, _-_, _<_, _≤_, max}
+use mathlib.Core.Path.{_≡_, refl, sym, ap, subst, _∙_}
+use mathlib.Core.Logic.{_⊎_, inl, inr, ⊎-elim}
+use mathlib.Core.Bool.{Bool, true, false, _&&_, _||_, not}
+use mathlib.Core.List.{List, [], _∷_}
+use native.Mathlib.Omega.{arith}
+use lib.Dec.{eqb}
+use borrow.Author.Tests.{eq-eqb, ne-eqb, eqb-true, eqb-false, le-leb}
+use Rattle.choice.specs.Choice.{if_then_else_, _=ᵇ_, _≠ᵇ_, _≤ᵇ_}
+use Rattle.choice.proofs.Choice.{if-true, if-false, if-either, if-=, if-=-not}
+use Rattle.choice.proofs.Tests.{false-true}
+use Rattle.segment.specs.Flags.{syn, rst, ack, SYN, SYN+ACK}
+use Rattle.connection.specs.Ranges.{ackRange}
+use Rattle.connection.specs.declared.Verdict.{Verdict}
+use Rattle.connection.specs.declared.Verdict.the-variants.{Pass, SequenceMissed, AckMissed}
+use Rattle.history.specs.Numbers.{Numbers, widest, boundsI-II, boundsIII-IV, Spans}
+use Rattle.history.specs.History.{LineSegment, numbersOf, stageOf, judge, judgeUnanswered, Formed}
+use Rattle.history.proofs.Verdict.{Unanswered, Answered, spans}
+use Rattle.honest.specs.Filter.{Keys}
+use Rattle.honest.specs.Honest.{Event, Pair, receivedBy, highest, ackOf, endOf, answered, FirstSegment}
+use Rattle.honest.proofs.Lists.{In, highest-up, highest-lub, endBy-mine, numbers-up, end-lub}
+use Rattle.honest.proofs.Sends.{SentWith, ackFrom, Later, First, Fact, Protocol, FirstFacts, first-facts, first-acks, answered-in, passed-sent}
+
+module _ {K : Keys} {Call : Type 0} (P : Pair K) (h : List LineSegment) (Arrived : ℕ → LineSegment → Type 0) (L : List (Event Call)) (inv : Protocol P h Arrived L) where
+  module _ (k : ℕ) (p : LineSegment) (s : ℕ) (sent : SentWith k p s L) (in-order : (j : ℕ) (g : LineSegment) → Arrived j g → g .from ≡ p .from → j ≤ k) where
+    fact : Fact P h p s L
+    fact = inv .facts k p s sent
+
+    -- The order of arrivals enters here alone: what has passed of the same end was sent no later
+    pub admitted : (g : LineSegment) → In g h → g .from ≡ p .from → (r : ℕ) × Fact P h g r L × (r ≤ p .start) × (ack (g .flags) ≡ 1 → ack (p .flags) ≡ 1 → g .acked ≤ p .acked)
+    admitted g there same =
+        let a = passed-sent P h Arrived L inv g there in
+        let o = inv .order (a .0) g (a .1) k p s (a .3) sent same (in-order (a .0) g (a .2) same) in
+        (a .1, inv .facts (a .0) g (a .1) (a .3), omega (arith, o .0, fact .snapshot-low), o .1)
+
+    module _ (both-heard : Answered h) (begun : (i : ℕ) → i < 2 → P .start i + 1 ≤ numbersOf i h .end) where
+      i : ℕ
+      i = p .from
+
+      F : Spans (numbersOf (p .from) h)
+      F = spans h both-heard (p .from) (fact .end-known)
+
+      T : Spans (numbersOf (1 - p .from) h)
+      T = spans h both-heard (1 - p .from) (omega (arith, fact .end-known))
+
+      begun-mine : P .start (p .from) + 1 ≤ numbersOf (p .from) h .end
+      begun-mine = begun (p .from) (fact .end-known)
+
+      begun-theirs : P .start (1 - p .from) + 1 ≤ numbersOf (1 - p .from) h .end
+      begun-theirs = begun (1 - p .from) (omega (arith, fact .end-known))
+
+      pub bound-I : endOf p ≤ numbersOf (p .from) h .edge
+      bound-I = omega (arith, fact .below-edge, begun-mine, F .ordered)
+
+      pub bound-II : numbersOf (p .from) h .end ≤ p .start + numbersOf (1 - p .from) h .win
+      bound-II = end-lub (p .from) _ h (λ g there mine.
+          let a = admitted g there mine in
+          let window : numbersOf (1 - g .from) h .win ≡ numbersOf (1 - p .from) h .win = ap (λ (j : ℕ). numbersOf (1 - j) h .win) mine in
+          omega (arith, a .1 .in-window, a .2))
+
+      pub bound-III : ack (p .flags) ≡ 1 → p .acked ≤ numbersOf (1 - p .from) h .end
+      bound-III acks = omega (arith, fact .acks-passed acks, begun-theirs)
+
+      -- no acknowledgement of this end that has passed is higher
+      acks-below : ack (p .flags) ≡ 1 → highest (ackFrom (p .from)) h ≤ p .acked
+      acks-below acks = highest-lub (ackFrom (p .from)) (p .acked) h (λ g there. below g there (eqb (g .from) (p .from)) refl (eqb (ack (g .flags)) 1) refl)
+        where
+          below : (g : LineSegment) → In g h → (t : Bool) → eqb (g .from) (p .from) ≡ t → (u : Bool) → eqb (ack (g .flags)) 1 ≡ u → ackFrom (p .from) g ≤ p .acked
+          below g there true e true a =
+              rw (if-true (g .from =ᵇ p .from) (ackOf g) 0 e, if-true (ack (g .flags) =ᵇ 1) (g .acked) 0 a)
+              (admitted g there (eqb-true _ _ e) .3 (eqb-true _ _ a) acks)
+          below g there true e false a = rw (if-true (g .from =ᵇ p .from) (ackOf g) 0 e, if-false (ack (g .flags) =ᵇ 1) (g .acked) 0 a) (omega arith)
+          below g there false e u a = rw (if-false (g .from =ᵇ p .from) (ackOf g) 0 e) (omega arith)
+
+      pub bound-IV : ack (p .flags) ≡ 1 → numbersOf (1 - p .from) h .end ≤ p .acked + ackRange
+      bound-IV acks = end-lub (1 - p .from) _ h (λ g there other.
+          let a = passed-sent P h Arrived L inv g there in
+          let f = inv .facts (a .0) g (a .1) (a .3) in
+          let back : 1 - g .from ≡ p .from = omega (arith, fact .end-known) in
+          let window : numbersOf (1 - g .from) h .win ≡ numbersOf (p .from) h .win = ap (λ (j : ℕ). numbersOf j h .win) back in
+          let heard : highest (ackFrom (1 - g .from)) h ≡ highest (ackFrom (p .from)) h = ap (λ (j : ℕ). highest (ackFrom j) h) back in
+          let begins : P .start (g .from) ≡ P .start (1 - p .from) = ap (P .start) other in
+          omega (arith, f .in-window, f .snapshot-passed, F .win-most, acks-below acks, fact .acks-syn acks))
+
+      pub judged-pass : judge h p ≡ Pass
+      unfolding judge
+      judged-pass =
+          let later : stageOf h ≡ 1 → ⊥ = λ (e : stageOf h ≡ 1). omega (arith, both-heard .stage) in
+          let in-range : boundsI-II (numbersOf (p .from) h) (numbersOf (1 - p .from) h) (p .start) (p .length) ≡ true = rw (le-leb _ _ bound-II, le-leb _ _ bound-I) in
+          if-=-not _ _ later ∙ if-false _ _ _ (rw in-range) ∙ by-ack (eqb (ack (p .flags)) 1) refl
+        where
+          by-ack : (t : Bool) → eqb (ack (p .flags)) 1 ≡ t → (if (ack (p .flags) =ᵇ 1) && not (boundsIII-IV (numbersOf (1 - p .from) h) (p .acked)) then AckMissed else Pass) ≡ Pass
+          by-ack true e =
+              let acks = eqb-true (ack (p .flags)) 1 e in
+              let in-range : boundsIII-IV (numbersOf (1 - p .from) h) (p .acked) ≡ true = rw (le-leb _ _ (bound-III acks), le-leb _ _ (bound-IV acks)) in
+              if-false _ _ _ (rw (e, in-range))
+          by-ack false e = if-false _ _ _ (rw e)
+
+  -- In stage 1 neither end is answered, so each sends its first segment only
+
+  module _ (quiet : Unanswered h) (begun : P .start 0 + 1 ≤ numbersOf 0 h .end) where
+    opener-unanswered : answered 0 L ≡ true → ⊥
+    opener-unanswered e =
+        let r = answered-in 0 L (omega arith) e in
+        let there = inv .received 0 (r .0) (r .1) in
+        let a = passed-sent P h Arrived L inv (r .0) (there .0) in
+        let f = inv .facts (a .0) (r .0) (a .1) (a .3) in
+        let answerer : r .0 .from ≡ 1 = omega (arith, f .end-known, there .1) in
+        let seen = rw (endBy-mine 1 (r .0) (f .no-reset) answerer) at (numbers-up 1 (r .0) h (there .0) .0) in
+        let none = ap (λ (x : Numbers). x .end) (quiet .unheard) in
+        let flags = r .3 refl in
+        omega (arith, seen, none, f .formed .syn-alone (rw flags))
+
+    -- a passed segment of the opener is its SYN
+    opener-first : (g : LineSegment) → In g h → g .from ≡ 0 → (s : ℕ) × First P g s × Formed g
+    opener-first g there opener =
+        let a = passed-sent P h Arrived L inv g there in
+        let f = inv .facts (a .0) g (a .1) (a .3) in (
+          a .1,
+          ⊎-elim (λ (x : First P g (a .1)). x)
+              (λ (y : Later g (a .1) L). absurd (opener-unanswered (subst (λ (j : ℕ). answered j L ≡ true) opener (y .answered-now)))) (f .kind),
+          f .formed,
+        )
+
+    answerer-unanswered : answered 1 L ≡ true → ⊥
+    answerer-unanswered e =
+        let r = answered-in 1 L (omega arith) e in
+        let there = inv .received 1 (r .0) (r .1) in
+        let a = passed-sent P h Arrived L inv (r .0) (there .0) in
+        let f = inv .facts (a .0) (r .0) (a .1) (a .3) in
+        let opener : r .0 .from ≡ 0 = omega (arith, f .end-known, there .1) in
+        let o = opener-first (r .0) (there .0) opener in
+        omega (arith, first-facts P (r .0) (o .2) (o .1 .rule) .opener opener, r .2)
+
+    unanswered-both : (i : ℕ) → i < 2 → answered i L ≡ true → ⊥
+    unanswered-both zero known = opener-unanswered
+    unanswered-both (suc zero) known = answerer-unanswered
+    unanswered-both (suc (suc i)) known = absurd (omega arith)
+
+    pub sent-first : (k : ℕ) (p : LineSegment) (s : ℕ) → SentWith k p s L → First P p s
+    sent-first k p s sent =
+        let f = inv .facts k p s sent in
+        ⊎-elim (λ (x : First P p s). x) (λ (y : Later p s L). absurd (unanswered-both (p .from) (f .end-known) (y .answered-now))) (f .kind)
+
+    pub opener-end : numbersOf 0 h .end ≡ P .start 0 + 1
+    opener-end =
+        let most : numbersOf 0 h .end ≤ P .start 0 + 1 = end-lub 0 _ h (λ g there opener.
+        let o = opener-first g there opener in
+        let begins : P .start (g .from) ≡ P .start 0 = ap (P .start) opener in
+        omega (arith, first-facts P g (o .2) (o .1 .rule) .end)) in
+        omega arith
+
+    pub judged-first : (k : ℕ) (p : LineSegment) (s : ℕ) → SentWith k p s L → judge h p ≡ Pass
+    unfolding judge judgeUnanswered
+    judged-first k p s sent = if-= _ _ (quiet .stage) ∙ by-end (eqb (p .from) 0) refl
+      where
+        f : Fact P h p s L
+        f = inv .facts k p s sent
+
+        x : First P p s
+        x = sent-first k p s sent
+
+        ff : FirstFacts P p
+        ff = first-facts P p (f .formed) (x .rule)
+
+        by-end : (t : Bool) → eqb (p .from) 0 ≡ t → judgeUnanswered h p ≡ Pass
+        by-end true e =
+            let opener = eqb-true (p .from) 0 e in
+            let begins : P .start (p .from) ≡ P .start 0 = ap (P .start) opener in
+            if-true _ _ _ e
+            ∙ if-false _ _ _ (rw (eq-eqb (p .flags) SYN (ff .opener opener)))
+            ∙ if-false _ _ _ (rw (eq-eqb (p .start + 1) (numbersOf 0 h .end) (omega (arith, x .rule .start, opener-end))))
+        by-end false e =
+            let answerer : p .from ≡ 1 = omega (arith, eqb-false (p .from) 0 e, f .end-known) in
+            if-false _ _ _ e
+            ∙ if-false _ _ _ (rw (eq-eqb (p .acked) (numbersOf 0 h .end) (x .rule .acks answerer ∙ sym opener-end)))
+            ∙ if-true _ _ _ (rw (eq-eqb (p .flags) SYN+ACK (ff .answerer answerer)))

@@ -1,0 +1,376 @@
+-- Demand 3: two honest ends are never blocked, by any machine that keeps to the filter.
+use Prim.Native.Nat.{ℕ, zero, suc, _+_, _-_, _<_, _≤_, max}
+use mathlib.Core.Path.{_≡_, refl, sym, ap, subst, _∙_}
+use mathlib.Core.Logic.{_⊎_, inl, inr, ⊎-elim}
+use mathlib.Core.Bool.{Bool, true, false, _&&_, _||_, not}
+use mathlib.Core.List.{List, [], _∷_}
+use native.Mathlib.Omega.{arith}
+use lib.Dec.{eqb, ltb}
+use lib.ListN.{length, getD, set}
+use borrow.Author.Tests.{eq-eqb, eqb-true, eqb-false}
+use Rattle.choice.specs.Choice.{if_then_else_, _=ᵇ_}
+use Rattle.choice.proofs.Choice.{if-true, if-false, if-either, if-=, if-=-not}
+use Rattle.choice.proofs.Tests.{false-true, true-or-false, lt-or-ge}
+use Rattle.segment.specs.Flags.{rst, SYN}
+use Rattle.segment.specs.declared.Segment.{Segment}
+use Rattle.connection.specs.Stages.{lifeOf}
+use Rattle.connection.specs.Decision.{verdictOn, passed, opened}
+use Rattle.connection.specs.declared.Connection.{Connection}
+use Rattle.connection.specs.declared.Verdict.the-variants.{Pass}
+use Rattle.history.specs.Numbers.{Numbers}
+use Rattle.history.specs.History.{LineSegment, numbersOf, onWire, stageOf, Holds, Formed}
+use Rattle.history.proofs.Pass.{opened-unanswered, opened-holds, opener-begins}
+use Rattle.honest.specs.Filter.{Keys, Entry, Table, Ask, Reply, freeEntry, SoundTable, clockUsed, search, senderOf, pass, entryAfter, byVerdict, matched, filter}
+use Rattle.honest.specs.Machine.{Said, Reading, unreadable, asks, Machine, KeepsTo}
+use Rattle.honest.specs.Honest.{Label, opening, arrival, other, Event, send, call, delivery, Pair, sideOf, keyOf, Sent, receivedBy, answered, Honest, Told, clockIn, passes, nextClock, afterSegment, afterCall, told, said, Live, Is, Arrived, Passed, Arrives, Opening, Arrival, FairCall, Fair, Legal, NeverBlocked, Demand3}
+use Rattle.honest.proofs.Lists.{In}
+use Rattle.honest.proofs.Sends.{SentWith, sent-with, First, Later, Fact, FirstFacts, first-facts, Protocol, answered-in, protocol-sent, protocol-delivered, protocol-called, protocol-passed}
+use Rattle.honest.proofs.Table.{OurEntry, OthersExpired, AskOf, arrival-found, opening-made, pass-elsewhere, pass-on-ours, pass-clock, filter-matched}
+use Rattle.honest.proofs.Arrival.{Heard, quiet, both, Passing, passing, Renewed, passed-renewed, opened-renewed}
+
+module _ {K : Keys} (M : Machine K) (Sound : M .State → Type 0) (keeps : KeepsTo K M Sound) (s₀ : M .State) (P : Pair K) (known : P .side ≤ 1) where
+  -- the entry is there as the history has it, and no other of the pair is live
+  pub record Alive (t : Told M s₀ P) (c : Connection) : Type 0 where
+    pub ours : OurEntry P (M .view (t .state)) (t .place) c
+    pub others : OthersExpired P (M .view (t .state)) (t .place)
+    pub holds : Holds c (t .passed)
+    pub heard : Heard P (t .passed)
+    pub told-early : t .until ≤ c .deadline
+    pub first-early : M .view s₀ .clock < c .deadline
+
+  pub data Phase (t : Told M s₀ P) : Type 0 where
+    before : t .opened ≡ false → t .passed ≡ [] → Phase t
+    dead : t .opened ≡ true → t .until ≤ t .passClock → Phase t
+    alive : t .opened ≡ true → (c : Connection) → Alive t c → Phase t
+
+  pub record Table-kept (t : Told M s₀ P) : Type 0 where
+    pub sound : Sound (t .state)
+    pub clock : M .view (t .state) .clock ≡ max (M .view s₀ .clock) (t .passClock)
+    pub phase : Phase t
+
+  pub record Inv (L : List (Event (M .Call))) : Type 0 where
+    pub table : Table-kept (told M s₀ P L)
+    pub protocol : Protocol P (told M s₀ P L .passed) (λ k p. Arrived M s₀ P k p L) L
+
+  -- What a call does to the table
+
+  module _ (t : Told M s₀ P) (kept : Table-kept t) (q : M .Call) where
+    -- a call that does not pass leaves all as it was
+    blocked-same : passes M s₀ P t q ≡ false → M .run (t .state) q .next ≡ t .state
+    unfolding passes
+    blocked-same e = keeps .blocked-keeps (t .state) q (eqb-false _ _ e)
+
+    passed-0 : passes M s₀ P t q ≡ true → M .run (t .state) q .answer ≡ 0
+    unfolding passes
+    passed-0 e = eqb-true _ _ e
+
+    -- one that passes was read, and is answered by the filter
+    pub record Asked : Type 0 where
+      pub ask : Ask K
+      pub read : M .reads q ≡ asks ask
+      pub answer : filter K (M .view (t .state)) ask .answer ≡ 0
+      pub place : M .run (t .state) q .place ≡ filter K (M .view (t .state)) ask .place
+      pub table : M .view (M .run (t .state) q .next) ≡ filter K (M .view (t .state)) ask .table
+
+    asked : passes M s₀ P t q ≡ true → Asked
+    asked e = by (M .reads q) refl
+      where
+        by : (r : Reading (Ask K)) → M .reads q ≡ r → Asked
+        by unreadable is = absurd (keeps .unreadable-blocked (t .state) q is (passed-0 e))
+        by (asks a) is = record {
+          ask = a;
+          read = is;
+          answer = sym (keeps .answered (t .state) q a (kept .sound) is) ∙ passed-0 e;
+          place = keeps .placed (t .state) q a (kept .sound) is;
+          table = keeps .left (t .state) q a (kept .sound) is;
+        }
+
+    -- the header clock is the largest clock used at a pass
+    clock-after : passes M s₀ P t q ≡ true → M .view (M .run (t .state) q .next) .clock ≡ max (M .view s₀ .clock) (nextClock M s₀ P t q)
+    clock-after e =
+        let x = asked e in
+        let used = ap (λ (b : Table K). b .clock) (x .table) ∙ pass-clock P (M .view (t .state)) (x .ask) (x .answer) in
+        let given = ap (clockIn M s₀ P) (x .read) in
+        let next : nextClock M s₀ P t q ≡ max (clockIn M s₀ P (M .reads q)) (t .passClock) = if-true _ _ _ e in
+        omega (arith, used, given, next, kept .clock)
+
+    -- Any other call
+
+    other-blocked : passes M s₀ P t q ≡ false → afterCall M s₀ P t q other ≡ t
+    unfolding afterCall
+    other-blocked e =
+        let clock : nextClock M s₀ P t q ≡ t .passClock = if-false _ _ _ e in
+        λ k. record { state = blocked-same e k; opened = t .opened; place = t .place; passed = t .passed; passClock = clock k; until = t .until }
+
+    clocks-rise : t .passClock ≤ nextClock M s₀ P t q
+    clocks-rise = if-either (λ n. t .passClock ≤ n) _ _ _ (omega arith) (omega arith)
+
+    -- a connection that is live as told is live by its deadline
+    live-now : (c : Connection) → Alive t c → (a : Ask K) → M .reads q ≡ asks a → max (clockIn M s₀ P (M .reads q)) (t .passClock) < t .until → clockUsed K (M .view (t .state)) a < c .deadline
+    live-now c al a read live =
+        let given = ap (clockIn M s₀ P) read in
+        omega (arith, kept .clock, al .told-early, al .first-early)
+
+    other-phase : (t .opened ≡ true → max (clockIn M s₀ P (M .reads q)) (t .passClock) < t .until → passes M s₀ P t q ≡ true → M .run (t .state) q .place ≡ t .place → ⊥) → passes M s₀ P t q ≡ true → Phase t → Phase (afterCall M s₀ P t q other)
+    unfolding afterCall
+    other-phase fair e (before closed none) = before closed none
+    other-phase fair e (dead opened-t late) = dead opened-t (omega (arith, late, clocks-rise))
+    other-phase fair e (alive opened-t c al) =
+        ⊎-elim
+        (λ (live : max (clockIn M s₀ P (M .reads q)) (t .passClock) < t .until).
+        let x = asked e in
+        let elsewhere : filter K (M .view (t .state)) (x .ask) .place ≡ t .place → ⊥ = λ same. fair opened-t live e (x .place ∙ same) in
+        let now = live-now c al (x .ask) (x .read) live in
+        let r = pass-elsewhere P known (M .view (t .state)) (keeps .sound-table (t .state) (kept .sound)) (t .place) c (x .ask) (al .ours) (al .others) now (x .answer) elsewhere in
+        alive opened-t c record {
+          ours = rw (x .table) (r .0);
+          others = rw (x .table) (r .1);
+          holds = al .holds;
+          heard = al .heard;
+          told-early = al .told-early;
+          first-early = al .first-early;
+        })
+        (λ (late : t .until ≤ max (clockIn M s₀ P (M .reads q)) (t .passClock)).
+        let next : nextClock M s₀ P t q ≡ max (clockIn M s₀ P (M .reads q)) (t .passClock) = if-true _ _ _ e in
+        dead opened-t (omega (arith, late, next)))
+        (lt-or-ge (max (clockIn M s₀ P (M .reads q)) (t .passClock)) (t .until))
+
+    pub other-kept : (t .opened ≡ true → max (clockIn M s₀ P (M .reads q)) (t .passClock) < t .until → passes M s₀ P t q ≡ true → M .run (t .state) q .place ≡ t .place → ⊥) → Table-kept (afterCall M s₀ P t q other)
+    unfolding afterCall
+    other-kept fair = ⊎-elim by-pass (λ (e : passes M s₀ P t q ≡ false). subst Table-kept (sym (other-blocked e)) kept) (true-or-false (passes M s₀ P t q))
+      where
+        by-pass : passes M s₀ P t q ≡ true → Table-kept (afterCall M s₀ P t q other)
+        by-pass e = record { sound = keeps .sound-kept (t .state) q (kept .sound); clock = clock-after e; phase = other-phase fair e (kept .phase) }
+
+    -- A call with a segment p of the pair's, that passes
+
+    module _ (p : LineSegment) (a : Ask K) (read : M .reads q ≡ asks a) (brings : a .segment ≡ onWire p) (e : passes M s₀ P t q ≡ true) where
+      b : Table K
+      b = M .view (t .state)
+
+      sound-b : SoundTable K (M .view (t .state))
+      sound-b = keeps .sound-table (t .state) (kept .sound)
+
+      now : ℕ
+      now = clockUsed K (M .view (t .state)) a
+
+      answer-0 : filter K (M .view (t .state)) a .answer ≡ 0
+      answer-0 = sym (keeps .answered (t .state) q a (kept .sound) read) ∙ passed-0 e
+
+      -- what is told of the deadline is no later than the entry's
+      told-before : (place : ℕ) (c : Connection) → c .stage ≡ stageOf (p ∷ t .passed) → c .deadline ≡ clockUsed K (M .view (t .state)) a + lifeOf (c .stage) → afterSegment M s₀ P t q place p .until ≤ c .deadline
+      told-before place c stage deadline =
+          let given = ap (clockIn M s₀ P) read in
+          let next : nextClock M s₀ P t q ≡ max (clockIn M s₀ P (M .reads q)) (t .passClock) = if-true _ _ _ e in
+          let told-then : afterSegment M s₀ P t q place p .until ≡ nextClock M s₀ P t q + lifeOf (stageOf (p ∷ t .passed)) = if-true _ _ _ e in
+          let life = ap lifeOf stage in
+          omega (arith, given, next, told-then, life, deadline, kept .clock)
+
+      first-before : (c : Connection) → c .deadline ≡ clockUsed K (M .view (t .state)) a + lifeOf (c .stage) → 1 ≤ lifeOf (c .stage) → M .view s₀ .clock < c .deadline
+      first-before c deadline life = omega (arith, kept .clock)
+
+      -- the entry that it leaves, of a connection that holds the history with it on top
+      segment-kept : (place : ℕ) (c : Connection) → OurEntry P (M .view (M .run (t .state) q .next)) place c → OthersExpired P (M .view (M .run (t .state) q .next)) place → Holds c (p ∷ t .passed) → Heard P (p ∷ t .passed) → c .deadline ≡ clockUsed K (M .view (t .state)) a + lifeOf (c .stage) → 1 ≤ lifeOf (c .stage) → Table-kept (afterSegment M s₀ P t q place p)
+      segment-kept place c ours others holds heard deadline life =
+          let more : (if passes M s₀ P t q then p ∷ t .passed else t .passed) ≡ p ∷ t .passed = if-true _ _ _ e in
+          record {
+            sound = keeps .sound-kept (t .state) q (kept .sound);
+            clock = clock-after e;
+            phase = alive refl c record {
+              ours = ours;
+              others = others;
+              holds = rw more holds;
+              heard = rw more heard;
+              told-early = told-before place c (holds .stage) deadline;
+              first-early = first-before c deadline life;
+            };
+          }
+
+      -- the opening
+      pub opening-kept : AskOf P 0 a → p .from ≡ 0 → p .flags ≡ SYN → Formed p → p .start ≡ P .start 0 → t .passed ≡ [] → search K (M .view (t .state)) a ≡ length (M .view (t .state) .entries) → Table-kept (afterSegment M s₀ P t q (M .run (t .state) q .place) p)
+      opening-kept asked-0 opener a-syn formed begins none unfound =
+          let made = opening-made P known (M .view (t .state)) sound-b a asked-0 unfound answer-0 in
+          let c : Connection = opened (P .side) (a .segment) (clockUsed K (M .view (t .state)) a) in
+          let renewed = opened-renewed (P .side) (a .segment) (clockUsed K (M .view (t .state)) a) in
+          let holds : Holds (opened (P .side) (a .segment) (clockUsed K (M .view (t .state)) a)) (p ∷ t .passed) = rw (brings, none) (opened-holds p opener a-syn formed (P .side) (clockUsed K (M .view (t .state)) a)) in
+          let end = ap (λ (n : Numbers). n .end) (opener-begins p opener a-syn formed) in
+          let heard : Heard P (p ∷ t .passed) = rw none (quiet (opened-unanswered p opener a-syn formed) (omega (arith, end, begins))) in
+          let place = keeps .placed (t .state) q a (kept .sound) read in
+          let table = keeps .left (t .state) q a (kept .sound) read in
+          segment-kept (M .run (t .state) q .place) c (rw (place, table) (made .0)) (rw (place, table) (made .1)) holds heard (renewed .0) (renewed .1)
+
+    -- An arrival at the live entry
+
+    module _ (k : ℕ) (p : LineSegment) (s : ℕ) (a : Ask K) (read : M .reads q ≡ asks a) (brings : a .segment ≡ onWire p) (asked-p : AskOf P (p .from) a) (no-reset : rst (p .flags) ≡ 1 → ⊥) (c : Connection) (al : Alive t c) (live : max (clockIn M s₀ P (M .reads q)) (t .passClock) < t .until) (verdict : verdictOn c (p .from) (onWire p) ≡ Pass) where
+      next-entry : Entry K
+      next-entry = record { key = P .key; connection = passed c (p .from) (onWire p) (clockUsed K (M .view (t .state)) a) }
+
+      filter-passes : filter K (M .view (t .state)) a ≡ pass K (M .view (t .state)) a (t .place) (record { key = P .key; connection = passed c (p .from) (onWire p) (clockUsed K (M .view (t .state)) a) })
+      unfolding matched
+      filter-passes =
+          let found = arrival-found P known (M .view (t .state)) (keeps .sound-table (t .state) (kept .sound)) (t .place) (p .from) c a (al .ours) (al .others) asked-p (live-now c al a read live) in
+          let after : entryAfter K (record { key = P .key; connection = c }) (p .from) (onWire p) (clockUsed K (M .view (t .state)) a) ≡ record { key = P .key; connection = passed c (p .from) (onWire p) (clockUsed K (M .view (t .state)) a) } = if-=-not _ _ no-reset in
+          filter-matched P (M .view (t .state)) a (rw (found .0) (al .ours .inside))
+          ∙ ap (matched K (M .view (t .state)) a) (found .0)
+          ∙ rw (al .ours .there, found .1, brings, verdict, after)
+
+      answer-is-0 : M .run (t .state) q .answer ≡ 0
+      answer-is-0 = keeps .answered (t .state) q a (kept .sound) read ∙ ap (λ (r : Reply K). r .answer) filter-passes
+
+      place-is-ours : M .run (t .state) q .place ≡ t .place
+      place-is-ours = keeps .placed (t .state) q a (kept .sound) read ∙ ap (λ (r : Reply K). r .place) filter-passes
+
+      arrival-passes : passes M s₀ P t q ≡ true
+      unfolding passes
+      arrival-passes = eq-eqb _ _ answer-is-0
+
+      arrival-kept : ((now : ℕ) → Holds (passed c (p .from) (onWire p) now) (p ∷ t .passed)) → Heard P (p ∷ t .passed) → Table-kept (afterSegment M s₀ P t q (t .place) p)
+      arrival-kept holds-after heard-after =
+          let now : ℕ = clockUsed K (M .view (t .state)) a in
+          let c' : Connection = passed c (p .from) (onWire p) (clockUsed K (M .view (t .state)) a) in
+          let renewed = passed-renewed c (p .from) (onWire p) (clockUsed K (M .view (t .state)) a) no-reset in
+          let table = keeps .left (t .state) q a (kept .sound) read ∙ ap (λ (r : Reply K). r .table) filter-passes in
+          let r = pass-on-ours P known (M .view (t .state)) (keeps .sound-table (t .state) (kept .sound)) (t .place) c c' a (al .ours) (al .others) (renewed .side ∙ al .ours .our-side) in
+          segment-kept p a read brings arrival-passes (t .place) c' (rw table (r .0)) (rw table (r .1)) (holds-after (clockUsed K (M .view (t .state)) a)) heard-after (renewed .deadline) (renewed .life)
+
+  -- The events, one by one
+
+  in-more : (p g : LineSegment) (h : List LineSegment) (b : Bool) → ((p ≡ g) × (b ≡ true)) ⊎ In p h → In p (if b then g ∷ h else h)
+  unfolding if_then_else_
+  in-more p g h true one = ⊎-elim (λ (new : (p ≡ g) × (true ≡ true)). inl (new .0)) (λ (old : In p h). inr old) one
+  in-more p g h false one = ⊎-elim (λ (new : (p ≡ g) × (false ≡ true)). false-true (new .1)) (λ (old : In p h). old) one
+
+  -- what has passed is in the history
+  passed-in : (k : ℕ) (p : LineSegment) (L : List (Event (M .Call))) → Passed M s₀ P k p L → In p (told M s₀ P L .passed)
+  unfolding told afterCall
+  passed-in k p [] none = absurd none
+  passed-in k p (send g ∷ L) was = passed-in k p L was
+  passed-in k p (call q (opening j g) ∷ L) was =
+      in-more p g (told M s₀ P L .passed) (passes M s₀ P (told M s₀ P L) q) (⊎-elim (λ new. inl (new .0 .1, new .1)) (λ old. inr (passed-in k p L old)) was)
+  passed-in k p (call q (arrival j g) ∷ L) was =
+      in-more p g (told M s₀ P L .passed) (passes M s₀ P (told M s₀ P L) q) (⊎-elim (λ new. inl (new .0 .1, new .1)) (λ old. inr (passed-in k p L old)) was)
+  passed-in k p (call q other ∷ L) was = ⊎-elim (λ never. absurd (never .0)) (λ old. passed-in k p L old) was
+  passed-in k p (delivery j g ∷ L) was = passed-in k p L was
+
+  start : Sound s₀ → Inv []
+  unfolding told receivedBy
+  start sound = record {
+    table = record { sound = sound; clock = omega arith; phase = before refl refl };
+    protocol = record {
+      facts = λ k p s none. absurd none;
+      order = λ k p s k' p' s' none. absurd none;
+      received = λ i p none. absurd none;
+      arrived = λ k p none. absurd none;
+      passed = λ p none. absurd none;
+    };
+  }
+
+  after-send : (p : LineSegment) (L : List (Event (M .Call))) → Inv L → p .from < 2 → Formed p → Honest P p L → Inv (send p ∷ L)
+  unfolding told
+  after-send p L inv end-known formed honest = record {
+    table = inv .table;
+    protocol = protocol-sent P (told M s₀ P L .passed) (λ k g. Arrived M s₀ P k g L) L (inv .protocol) p end-known formed honest;
+  }
+
+  after-delivery : (k : ℕ) (p : LineSegment) (L : List (Event (M .Call))) → Inv L → Passed M s₀ P k p L → Inv (delivery k p ∷ L)
+  unfolding told
+  after-delivery k p L inv was = record {
+    table = inv .table;
+    protocol = protocol-delivered P (told M s₀ P L .passed) (λ j g. Arrived M s₀ P j g L) L k p (inv .protocol) (passed-in k p L was);
+  }
+
+  after-other : (q : M .Call) (L : List (Event (M .Call))) → Inv L → FairCall M s₀ P other q L → Inv (call q other ∷ L)
+  unfolding told afterCall
+  after-other q L inv fair =
+      let pr = protocol-called P (told M s₀ P L .passed) (λ j g. Arrived M s₀ P j g L) L (inv .protocol) q other in
+      record {
+        table = other-kept (told M s₀ P L) (inv .table) q fair;
+        protocol = record {
+          facts = pr .facts;
+          order = pr .order;
+          received = pr .received;
+          arrived = λ k p a. ⊎-elim (λ never. absurd never) (λ old. pr .arrived k p old) a;
+          passed = λ p there. let r = pr .passed p there in (r .0, inr (r .1));
+        };
+      }
+
+  -- a segment of the pair's, passed
+  protocol-after : (q : M .Call) (l : Label) (k : ℕ) (p : LineSegment) (L : List (Event (M .Call))) → Inv L → Sent k p L → passes M s₀ P (told M s₀ P L) q ≡ true → (place : ℕ) → Protocol P (afterSegment M s₀ P (told M s₀ P L) q place p .passed) (λ j g. ((j ≡ k) × (g ≡ p)) ⊎ Arrived M s₀ P j g L) (call q l ∷ L)
+  protocol-after q l k p L inv sent e place =
+      let with-s = sent-with k p L sent in
+      rw (if-true (passes M s₀ P (told M s₀ P L) q) (p ∷ told M s₀ P L .passed) (told M s₀ P L .passed) e)
+      (protocol-passed P (told M s₀ P L .passed) (λ j g. Arrived M s₀ P j g L) L (inv .protocol) q l k p (with-s .0) (with-s .1))
+
+  after-opening : (q : M .Call) (k : ℕ) (p : LineSegment) (L : List (Event (M .Call))) → Inv L → Opening M s₀ P k p q L → Inv (call q (opening k p) ∷ L)
+  unfolding told afterCall
+  after-opening q k p L inv o = record {
+    table = by-phase (inv .table .phase);
+    protocol = protocol-after q (opening k p) k p L inv (o .arrives .sent) (o .answered-0) (M .run (told M s₀ P L .state) q .place);
+  }
+    where
+      w : (s : ℕ) × SentWith k p s L
+      w = sent-with k p L (o .arrives .sent)
+
+      f : Fact P (told M s₀ P L .passed) p (w .0) L
+      f = inv .protocol .facts k p (w .0) (w .1)
+
+      -- nothing has passed, so nothing was received, and what is sent is a SYN
+      is-first : told M s₀ P L .passed ≡ [] → First P p (w .0)
+      is-first none =
+          ⊎-elim (λ (x : First P p (w .0)). x)
+          (λ (y : Later p (w .0) L).
+          let r = answered-in (p .from) L (f .end-known) (y .answered-now) in
+          absurd (subst (In (r .0)) none (inv .protocol .received (p .from) (r .0) (r .1) .0)))
+          (f .kind)
+
+      by-phase : Phase (told M s₀ P L) → Table-kept (afterSegment M s₀ P (told M s₀ P L) q (M .run (told M s₀ P L .state) q .place) p)
+      by-phase (dead opened-t late) = false-true (sym (o .first-one) ∙ opened-t)
+      by-phase (alive opened-t c al) = false-true (sym (o .first-one) ∙ opened-t)
+      by-phase (before closed none) =
+          let x = is-first none in
+          let ff = first-facts P p (f .formed) (x .rule) in
+          opening-kept (told M s₀ P L) (inv .table) q p _ (o .arrives .brings) refl (o .answered-0)
+          record { end = omega arith; side = ap (sideOf P) (o .opener); key = ap (keyOf P) (o .opener) }
+          (o .opener) (ff .opener (o .opener)) (f .formed) (x .rule .start ∙ ap (P .start) (o .opener)) none (o .finds-none _ (o .arrives .brings))
+
+  after-arrival : (q : M .Call) (k : ℕ) (p : LineSegment) (L : List (Event (M .Call))) → Inv L → Arrival M s₀ P k p q L → (said M s₀ P L q .answer ≡ 0) × (said M s₀ P L q .place ≡ told M s₀ P L .place) × Inv (call q (arrival k p) ∷ L)
+  unfolding told afterCall
+  after-arrival q k p L inv r = by-phase (inv .table .phase)
+    where
+      by-phase : Phase (told M s₀ P L) → (said M s₀ P L q .answer ≡ 0) × (said M s₀ P L q .place ≡ told M s₀ P L .place) × Inv (call q (arrival k p) ∷ L)
+      by-phase (before closed none) = false-true (sym closed ∙ r .after-opening)
+      by-phase (dead opened-t late) = absurd (omega (arith, late, r .live))
+      by-phase (alive opened-t c al) =
+          let w = sent-with k p L (r .arrives .sent) in
+          let f = inv .protocol .facts k p (w .0) (w .1) in
+          let x = passing P (told M s₀ P L .passed) (λ j g. Arrived M s₀ P j g L) L (inv .protocol) c (al .holds) k p (w .0) (w .1) (r .in-order) (al .heard) in
+          let asked-p : AskOf P (p .from) (record { side = sideOf P (p .from); clock = r .arrives .clock; key = keyOf P (p .from); segment = onWire p }) = record { end = f .end-known; side = refl; key = refl } in (
+            answer-is-0 (told M s₀ P L) (inv .table) q k p (w .0) _ (r .arrives .brings) refl asked-p (f .no-reset) c al (r .live) (x .verdict),
+            place-is-ours (told M s₀ P L) (inv .table) q k p (w .0) _ (r .arrives .brings) refl asked-p (f .no-reset) c al (r .live) (x .verdict),
+            record {
+              table = arrival-kept (told M s₀ P L) (inv .table) q k p (w .0) _ (r .arrives .brings) refl asked-p (f .no-reset) c al (r .live) (x .verdict) (x .holds-after) (x .heard-after);
+              protocol = protocol-after q (arrival k p) k p L inv (r .arrives .sent)
+                  (arrival-passes (told M s₀ P L) (inv .table) q k p (w .0) _ (r .arrives .brings) refl asked-p (f .no-reset) c al (r .live) (x .verdict)) (told M s₀ P L .place);
+            },
+          )
+
+  -- The theorem
+
+  kept-along : Sound s₀ → (L : List (Event (M .Call))) → Legal M s₀ P L → Inv L × NeverBlocked M s₀ P L
+  kept-along sound [] legal = (start sound, tt)
+  kept-along sound (send p ∷ L) legal =
+      let r = kept-along sound L (legal .1) in (after-send p L (r .0) (legal .0 .0) (legal .0 .1) (legal .0 .2), r .1)
+  kept-along sound (call q (opening k p) ∷ L) legal =
+      let r = kept-along sound L (legal .1) in (after-opening q k p L (r .0) (legal .0), r .1)
+  kept-along sound (call q (arrival k p) ∷ L) legal =
+      let r = kept-along sound L (legal .1) in
+      let a = after-arrival q k p L (r .0) (legal .0) in
+      (a .2, (a .0, a .1, r .1))
+  kept-along sound (call q other ∷ L) legal =
+      let r = kept-along sound L (legal .1) in (after-other q L (r .0) (legal .0), r .1)
+  kept-along sound (delivery k p ∷ L) legal =
+      let r = kept-along sound L (legal .1) in (after-delivery k p L (r .0) (legal .0), r .1)
+
+-- two honest ends are never blocked
+pub demand3 : {K : Keys} (M : Machine K) (Sound : M .State → Type 0) → KeepsTo K M Sound → Demand3 M Sound
+demand3 M Sound keeps s₀ sound P known L legal = kept-along M Sound keeps s₀ P known sound L legal .1
