@@ -1,14 +1,14 @@
 -- The decision on a matched connection (document 01, rows 13 to 15 and 0) and the connection that a pass leaves.
 use Prim.Native.Nat.{ℕ, _+_}
-use mathlib.Core.Bool.{_&&_, _||_, not}
+use mathlib.Core.Bool.{Bool, _&&_, _||_, not}
 use mathlib.Core.List.{[], _∷_}
 use lib.ListN.{set}
 use Rattle.choice.specs.Choice.{if_then_else_, _=ᵇ_, _≠ᵇ_}
-use Rattle.serial.specs.Serial.{seqBack, larger}
+use Rattle.serial.specs.Serial.{sameSeq, seqBack, larger}
 use Rattle.segment.specs.Flags.{rst, ack, SYN, SYN+ACK, ACK+RST}
 use Rattle.segment.specs.declared.Segment.{Segment}
-use Rattle.connection.specs.Ends.{octets, zeros, unheard, sender, other, effectiveWindow, granted, opening, written}
-use Rattle.connection.specs.Ranges.{sequenceMet, ackMet}
+use Rattle.connection.specs.Ends.{count, zeros, unheard, sender, other, effectiveWindow, granted, opening, written}
+use Rattle.connection.specs.Ranges.{sequenceMet, ackRange, ackMet}
 use Rattle.connection.specs.Stages.{lifeOf, finsAfter, stageAfter}
 use Rattle.connection.specs.declared.Connection.{Connection}
 use Rattle.connection.specs.declared.End.{End}
@@ -18,23 +18,23 @@ use Rattle.connection.specs.declared.Verdict.the-variants.{Pass, NotAllo
 abbrev pub opener : Connection → End
 opener c = sender (c .ends) 0
 
--- 13: stage 1 lets through the same SYN again (no ACK, s = opener end − 1) and, from the answerer with a = opener end, either
--- SYN+ACK or ACK+RST without FIN
+-- the same SYN again: the opener's, no ACK, s = opener end − 1
+unfoldable pub sameSyn : Connection → ℕ → Segment → Bool
+sameSyn c i g = (i =ᵇ 0) && ((g .flags =ᵇ SYN) && sameSeq (g .seq) (seqBack (opener c .end) (count 1)))
+
+-- from the answerer, with a = opener end, either SYN+ACK or ACK+RST without FIN
+unfoldable pub reply : Connection → ℕ → Segment → Bool
+reply c i g = (i =ᵇ 1) && (sameSeq (g .ack) (opener c .end) && ((g .flags =ᵇ SYN+ACK) || (g .flags =ᵇ ACK+RST)))
+
+-- 13: stage 1, and not one of the three segments allowed there
 unfoldable pub verdictUnanswered : Connection → ℕ → Segment → Verdict
-verdictUnanswered c i g =
-    if i =ᵇ 0 then
-    (if g .flags ≠ᵇ SYN then NotAllowed
-    else if g .seq .0 ≠ᵇ seqBack (opener c .end) (octets 1) .0 then NotAllowed
-    else Pass)
-    else if g .ack .0 ≠ᵇ opener c .end .0 then NotAllowed
-    else if (g .flags =ᵇ SYN+ACK) || (g .flags =ᵇ ACK+RST) then Pass
-    else NotAllowed
+verdictUnanswered c i g = if sameSyn c i g || reply c i g then Pass else NotAllowed
 
 -- 14: sequence range missed; 15: ACK set, acknowledgement range missed
 unfoldable pub verdictByRanges : Connection → ℕ → Segment → Verdict
 verdictByRanges c i g =
     if not (sequenceMet (sender (c .ends) i) (other (c .ends) i) g) then SequenceMissed
-    else if (ack (g .flags) =ᵇ 1) && not (ackMet (other (c .ends) i) g) then AckMissed
+    else if (ack (g .flags) =ᵇ 1) && not (ackMet ackRange (other (c .ends) i) g) then AckMissed
     else Pass
 
 -- rows 13, 14, 15 and 0, for a segment of sender i
@@ -84,17 +84,18 @@ answered c g now = record {
   ends = granted (opener c) g ∷ opening g ∷ [];
 }
 
--- from stage 2
+-- from stage 2: what a pass writes, its sender's FIN bit, and the new stage with its life
 unfoldable pub carried : Connection → ℕ → Segment → ℕ → Connection
 carried c i g now = record {
-  stage = stageAfter (c .stage) (finsAfter (c .fins) i g) i g;
+  stage = stageAfter (c .stage) (finsAfter (c .fins) i (g .flags)) i (g .flags);
   side = c .side;
-  fins = finsAfter (c .fins) i g;
-  deadline = now + lifeOf (stageAfter (c .stage) (finsAfter (c .fins) i g) i g);
+  fins = finsAfter (c .fins) i (g .flags);
+  deadline = now + lifeOf (stageAfter (c .stage) (finsAfter (c .fins) i (g .flags)) i (g .flags));
   ends = written (c .ends) i g;
 }
 
--- a passed RST, in any stage, frees; else the segment's mark by stage
+-- a passed RST, in any stage, frees; else what passed in stage 1 is the opener's same SYN again or the answerer's SYN+ACK, and
+-- from stage 2 on any segment is carried
 unfoldable pub passed : Connection → ℕ → Segment → ℕ → Connection
 passed c i g now =
     if rst (g .flags) =ᵇ 1 then free

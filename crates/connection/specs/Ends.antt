@@ -10,19 +10,19 @@ use Rattle.segment.specs.Flags.{ack}
 use Rattle.segment.specs.declared.Segment.{Segment}
 use Rattle.connection.specs.declared.End.{End}
 
-abbrev pub octets : ℕ → OctetCount
-octets n = record { 0 = n }
+abbrev pub count : ℕ → OctetCount
+count n = record { 0 = n }
 
-abbrev pub place : ℕ → SeqNum
-place s = record { 0 = s }
+abbrev pub seqNum : ℕ → SeqNum
+seqNum s = record { 0 = s }
 
 -- an end that has shown nothing: 0, 0, 1
 abbrev pub unheard : End
-unheard = record { end = place 0; edge = place 0; win = octets 1 }
+unheard = record { end = seqNum 0; edge = seqNum 0; win = count 1 }
 
 -- a freed record, and what stands past the array's end
 abbrev pub zeros : End
-zeros = record { end = place 0; edge = place 0; win = octets 0 }
+zeros = record { end = seqNum 0; edge = seqNum 0; win = count 0 }
 
 -- F, the sender's record: 0 is the opener, 1 the answerer
 abbrev pub sender : List End → ℕ → End
@@ -32,7 +32,7 @@ sender ends i = getD ends i zeros
 abbrev pub other : List End → ℕ → End
 other ends i = getD ends (1 - i) zeros
 
--- the window that a segment grants
+-- w, as it counts: unscaled today
 abbrev pub effectiveWindow : Segment → OctetCount
 effectiveWindow g = g .window
 
@@ -42,7 +42,7 @@ segmentEnd g = seqPlus (g .seq) (g .octets)
 
 -- a + max(w, 1)
 abbrev pub rightEdge : Segment → SeqNum
-rightEdge g = seqPlus (g .ack) (larger (effectiveWindow g) (octets 1))
+rightEdge g = seqPlus (g .ack) (larger (effectiveWindow g) (count 1))
 
 -- F.end becomes the further of F.end and s + n; F.win the larger of F.win and w
 unfoldable pub sent : End → Segment → End
@@ -65,7 +65,7 @@ written ends i g =
 -- an end that a SYN opens: end = edge = s + 1, win = max(w, 1)
 abbrev pub opening : Segment → End
 opening g = record {
-  end = seqPlus (g .seq) (octets 1);
-  edge = seqPlus (g .seq) (octets 1);
-  win = larger (effectiveWindow g) (octets 1);
+  end = seqPlus (g .seq) (count 1);
+  edge = seqPlus (g .seq) (count 1);
+  win = larger (effectiveWindow g) (count 1);
 }

@@ -1,10 +1,10 @@
 -- The published bounds over a connection's records (document 01, "Ranges").
 use Prim.Native.Nat.{ℕ}
 use mathlib.Core.Bool.{Bool}
-use Rattle.choice.specs.Choice.{_≤ᵇ_}
-use Rattle.serial.specs.Serial.{seqBack, seqMinus, within}
+use Rattle.serial.specs.Serial.{seqBack, seqMinus, atMost, within}
 use Rattle.serial.specs.declared.SeqNum.{SeqNum}
 use Rattle.segment.specs.declared.Segment.{Segment}
+use Rattle.connection.specs.Ends.{count}
 use Rattle.connection.specs.declared.End.{End}
 
 -- low = F.end − T.win
@@ -19,6 +19,10 @@ sequenceMet F T g = within (seqMinus (g .seq) (low F T)) (g .octets) (seqMinus (
 abbrev pub ackRange : ℕ
 ackRange = 66000
 
--- bounds III and IV together: (T.end − a) mod 2^32 ≤ 66,000
-unfoldable pub ackMet : End → Segment → Bool
-ackMet T g = seqMinus (T .end) (g .ack) .0 ≤ᵇ ackRange
+-- bounds III and IV together: (T.end − a) mod 2^32 ≤ range
+unfoldable pub ackMet : ℕ → End → Segment → Bool
+ackMet range T g = atMost (seqMinus (T .end) (g .ack)) (count range)
+
+-- the largest window, and the most that an edge may be ahead of its end
+abbrev pub widest : ℕ
+widest = 65535

@@ -4,6 +4,8 @@ use mathlib.Core.Bool.{Bool, true, _&&_}
 use Rattle.choice.specs.Choice.{if_then_else_, _≤ᵇ_, _=ᵇ_}
 use Rattle.serial.specs.Serial.{seqMinus}
 use Rattle.connection.specs.Ends.{sender}
+use Rattle.connection.specs.Ranges.{widest}
+use Rattle.connection.specs.Stages.{longestLife}
 use Rattle.connection.specs.declared.Connection.{Connection}
 use Rattle.connection.specs.declared.End.{End}
 
@@ -16,7 +18,7 @@ soundFins stage fins =
 
 -- win 1 to 65,535; (edge − end) mod 2^32 at most 65,535
 unfoldable pub soundEnd : End → Bool
-soundEnd e = (1 ≤ᵇ e .win .0) && ((e .win .0 ≤ᵇ 65535) && (seqMinus (e .edge) (e .end) .0 ≤ᵇ 65535))
+soundEnd e = (1 ≤ᵇ e .win .0) && ((e .win .0 ≤ᵇ widest) && (seqMinus (e .edge) (e .end) .0 ≤ᵇ widest))
 
 -- in stage 1 the opener's edge equals its end and the answerer has 0, 0, 1
 unfoldable pub soundUnanswered : ℕ → End → End → Bool
@@ -31,7 +33,7 @@ soundConnection clock c =
     && ((c .stage ≤ᵇ 5)
     && ((c .side ≤ᵇ 1)
     && (soundFins (c .stage) (c .fins)
-    && ((c .deadline ≤ᵇ clock + 432000000)
+    && ((c .deadline ≤ᵇ clock + longestLife)
     && (soundEnd (sender (c .ends) 0)
     && (soundEnd (sender (c .ends) 1)
     && soundUnanswered (c .stage) (sender (c .ends) 0) (sender (c .ends) 1)))))))

@@ -1,40 +1,42 @@
 -- Stages and their lives (document 01, "Stages" and "The table").
-use Prim.Native.Nat.{ℕ, _+_}
+use Prim.Native.Nat.{ℕ, _+_, _/_, _%_}
 use mathlib.Core.Bool.{_&&_}
 use Rattle.choice.specs.Choice.{if_then_else_, _≤ᵇ_, _=ᵇ_}
 use Rattle.segment.specs.Flags.{fin, syn, ack}
-use Rattle.segment.specs.declared.Segment.{Segment}
+
+-- the longest life of a stage, in ms: that of stage 3
+abbrev pub longestLife : ℕ
+longestLife = 432000000
 
 -- life of a stage, in ms: 1 and 2: 60,000; 3: 432,000,000; 4: 3,600,000; 5: 240,000
 unfoldable pub lifeOf : ℕ → ℕ
 lifeOf stage =
     if (1 ≤ᵇ stage) && (stage ≤ᵇ 2) then 60000
-    else if stage =ᵇ 3 then 432000000
+    else if stage =ᵇ 3 then longestLife
     else if stage =ᵇ 4 then 3600000
     else if stage =ᵇ 5 then 240000
     else 0
 
--- the FIN bits, bit 0 the opener's and bit 1 the answerer's, with sender i's set: its own alone, or both
+-- the FIN bits with sender i's set: bit 0 the opener's, bit 1 the answerer's
 unfoldable pub withFin : ℕ → ℕ → ℕ
 withFin fins i =
-    if fins =ᵇ 0 then i + 1
-    else if fins =ᵇ i + 1 then i + 1
-    else 3
+    if i =ᵇ 0 then (if fins % 2 =ᵇ 1 then fins else fins + 1)
+    else (if fins / 2 % 2 =ᵇ 1 then fins else fins + 2)
 
--- from stage 2: a passed FIN sets its sender's bit
-unfoldable pub finsAfter : ℕ → ℕ → Segment → ℕ
-finsAfter fins i g = if fin (g .flags) =ᵇ 1 then withFin fins i else fins
+-- from stage 2: a passed FIN sets its sender's bit; f the segment's flags
+unfoldable pub finsAfter : ℕ → ℕ → ℕ → ℕ
+finsAfter fins i f = if fin f =ᵇ 1 then withFin fins i else fins
 
 -- with no FIN bit: 3 if it was 3 or the opener sent ACK without SYN, else 2
-unfoldable pub openStage : ℕ → ℕ → Segment → ℕ
-openStage stage i g =
+unfoldable pub openStage : ℕ → ℕ → ℕ → ℕ
+openStage stage i f =
     if stage =ᵇ 3 then 3
-    else if (i =ᵇ 0) && ((ack (g .flags) =ᵇ 1) && (syn (g .flags) =ᵇ 0)) then 3
+    else if (i =ᵇ 0) && ((ack f =ᵇ 1) && (syn f =ᵇ 0)) then 3
     else 2
 
 -- new stage, by the FIN bits after the segment: 5 with both bits, 4 with one, else 3 or 2
-unfoldable pub stageAfter : ℕ → ℕ → ℕ → Segment → ℕ
-stageAfter stage fins i g =
+unfoldable pub stageAfter : ℕ → ℕ → ℕ → ℕ → ℕ
+stageAfter stage fins i f =
     if fins =ᵇ 3 then 5
     else if (1 ≤ᵇ fins) && (fins ≤ᵇ 2) then 4
-    else openStage stage i g
+    else openStage stage i f

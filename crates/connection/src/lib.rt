@@ -1,10 +1,10 @@
 // One connection by value: the decision on a segment of it, and what a pass leaves (document 01, "Ranges" and "Stages").
 ghost use mathlib.Core.Path.{_≡_};
-ghost use Prim.Native.Nat.{_<_, _≤_};
+ghost use Prim.Native.Nat.{_^_, _<_, _≤_};
 ghost use Rattle.connection.specs.Ends.{sent, granted, opening, written};
-ghost use Rattle.connection.specs.Ranges.{sequenceMet, ackMet};
-ghost use Rattle.connection.specs.Stages.{lifeOf, withFin, finsAfter, openStage, stageAfter};
-ghost use Rattle.connection.specs.Decision.{verdictUnanswered, verdictByRanges, verdictOn, verdictNumber, free, opened, repeated, answered, carried, passed};
+ghost use Rattle.connection.specs.Ranges.{sequenceMet, ackRange, ackMet};
+ghost use Rattle.connection.specs.Stages.{longestLife, lifeOf, withFin, finsAfter, openStage, stageAfter};
+ghost use Rattle.connection.specs.Decision.{sameSyn, reply, verdictUnanswered, verdictByRanges, verdictOn, verdictNumber, free, opened, repeated, answered, carried, passed};
 use segment::Segment;
 use serial::OctetCount;
 use serial::SeqNum;
@@ -57,7 +57,7 @@ impl Verdict {
 
 // The life of a stage in ms.
 pub fn life(stage: u8) -> u64
-    ensures { λ r. ⌜ (r ≡ lifeOf stage) × (r ≤ 432000000) ⌝ }
+    ensures { λ r. ⌜ (r ≡ lifeOf stage) × (r ≤ longestLife) ⌝ }
 {
     match stage {
         1..=2 => 60_000,
@@ -136,35 +136,34 @@ fn sequence_met(from: End, to: End, segment: Segment) -> bool
 
 // Bounds III and IV.
 fn ack_met(to: End, segment: Segment) -> bool
-    ensures { λ r. ⌜ r ≡ ackMet to segment ⌝ }
+    ensures { λ r. ⌜ r ≡ ackMet ackRange to segment ⌝ }
 {
     let end = to.end;
     let ack = segment.ack;
     let behind = end.minus(ack);
-    behind.0 <= 66_000
+    behind.at_most(OctetCount(66_000))
 }
 
-// The FIN bits with the sender's set.
+// The FIN bits with the sender's set: bit 0 the opener's, bit 1 the answerer's.
 fn with_fin(fins: u8, sender: usize) -> u8
-    requires { ⌜ sender < 2 ⌝ }
     ensures { λ r. ⌜ r ≡ withFin fins sender ⌝ }
 {
-    let bit = sender as u8 + 1;
-    if fins == 0 {
-        return bit;
+    if sender == 0 {
+        if fins % 2 == 1 {
+            return fins;
+        }
+        return fins + 1;
     }
-    if fins == bit {
-        return bit;
+    if fins / 2 % 2 == 1 {
+        return fins;
     }
-    3
+    fins + 2
 }
 
-// The FIN bits after a segment.
-fn fins_after(fins: u8, sender: usize, segment: Segment) -> u8
-    requires { ⌜ sender < 2 ⌝ }
-    ensures { λ r. ⌜ r ≡ finsAfter fins sender segment ⌝ }
+// The FIN bits after a segment with these flags.
+fn fins_after(fins: u8, sender: usize, flags: u8) -> u8
+    ensures { λ r. ⌜ r ≡ finsAfter fins sender flags ⌝ }
 {
-    let flags = segment.flags;
     if flags % 2 == 1 {
         return with_fin(fins, sender);
     }
@@ -172,33 +171,34 @@ fn fins_after(fins: u8, sender: usize, segment: Segment) -> u8
 }
 
 // The stage after a segment where no FIN bit is set.
-fn open_stage(stage: u8, sender: usize, segment: Segment) -> u8
-    ensures { λ r. ⌜ r ≡ openStage stage sender segment ⌝ }
+fn open_stage(stage: u8, sender: usize, flags: u8) -> u8
+    ensures { λ r. ⌜ r ≡ openStage stage sender flags ⌝ }
 {
-    let flags = segment.flags;
-    if stage == 3 {
-        return 3;
+    match stage {
+        3 => 3,
+        _ => {
+            if sender != 0 {
+                return 2;
+            }
+            if flags / 16 % 2 != 1 {
+                return 2;
+            }
+            if flags / 2 % 2 != 0 {
+                return 2;
+            }
+            3
+        }
     }
-    if sender != 0 {
-        return 2;
-    }
-    if flags / 16 % 2 != 1 {
-        return 2;
-    }
-    if flags / 2 % 2 != 0 {
-        return 2;
-    }
-    3
 }
 
 // The stage after a segment, by the FIN bits after it.
-fn stage_after(stage: u8, fins: u8, sender: usize, segment: Segment) -> u8
-    ensures { λ r. ⌜ r ≡ stageAfter stage fins sender segment ⌝ }
+fn stage_after(stage: u8, fins: u8, sender: usize, flags: u8) -> u8
+    ensures { λ r. ⌜ r ≡ stageAfter stage fins sender flags ⌝ }
 {
     match fins {
         3 => 5,
         1..=2 => 4,
-        _ => open_stage(stage, sender, segment),
+        _ => open_stage(stage, sender, flags),
     }
 }
 
@@ -223,7 +223,7 @@ fn no_connection() -> Connection
 impl Connection {
     // The connection that an opening SYN makes.
     pub fn opened(side: u8, segment: Segment, clock: u64) -> Connection
-        requires { ⌜ clock < 281474976710656 ⌝ }
+        requires { ⌜ clock < 2 ^ 48 ⌝ }
         ensures { λ r. ⌜ r ≡ opened side segment clock ⌝ }
     {
         let opener = End::opening(segment);
@@ -242,33 +242,56 @@ impl Connection {
         }
     }
 
-    // Whether stage 1 lets a segment through.
-    fn unanswered(self, sender: usize, segment: Segment) -> Verdict
-        ensures { λ r. ⌜ r ≡ verdictUnanswered self sender segment ⌝ }
+    // Whether a segment is the opener's SYN again.
+    fn same_syn(self, sender: usize, segment: Segment) -> bool
+        ensures { λ r. ⌜ r ≡ sameSyn self sender segment ⌝ }
     {
         let opener = self.ends[0];
         let end = opener.end;
         let seq = segment.seq;
+        let flags = segment.flags;
+        if sender != 0 {
+            return false;
+        }
+        if flags != 2 {
+            return false;
+        }
+        let before = end.back(OctetCount(1));
+        seq.is(before)
+    }
+
+    // Whether a segment is the answerer's reply to the SYN: SYN+ACK or ACK+RST.
+    fn reply(self, sender: usize, segment: Segment) -> bool
+        ensures { λ r. ⌜ r ≡ reply self sender segment ⌝ }
+    {
+        let opener = self.ends[0];
+        let end = opener.end;
         let ack = segment.ack;
         let flags = segment.flags;
-        if sender == 0 {
-            let before = end.back(OctetCount(1));
-            if flags != 2 {
-                return Verdict::NotAllowed;
-            }
-            if seq.0 != before.0 {
-                return Verdict::NotAllowed;
-            }
-            return Verdict::Pass;
+        if sender != 1 {
+            return false;
         }
-        if ack.0 != end.0 {
-            return Verdict::NotAllowed;
+        if !ack.is(end) {
+            return false;
         }
         match flags {
-            18 => Verdict::Pass,
-            20 => Verdict::Pass,
-            _ => Verdict::NotAllowed,
+            18 => true,
+            20 => true,
+            _ => false,
         }
+    }
+
+    // Row 13, or 0, in stage 1.
+    fn unanswered(self, sender: usize, segment: Segment) -> Verdict
+        ensures { λ r. ⌜ r ≡ verdictUnanswered self sender segment ⌝ }
+    {
+        if self.same_syn(sender, segment) {
+            return Verdict::Pass;
+        }
+        if self.reply(sender, segment) {
+            return Verdict::Pass;
+        }
+        Verdict::NotAllowed
     }
 
     // Rows 14, 15 and 0.
@@ -297,15 +320,15 @@ impl Connection {
         ensures { λ r. ⌜ r ≡ verdictOn self sender segment ⌝ }
     {
         let stage = self.stage;
-        if stage == 1 {
-            return self.unanswered(sender, segment);
+        match stage {
+            1 => self.unanswered(sender, segment),
+            _ => self.ranges(sender, segment),
         }
-        self.ranges(sender, segment)
     }
 
     // After the same SYN again.
     fn repeated(self, segment: Segment, clock: u64) -> Connection
-        requires { ⌜ clock < 281474976710656 ⌝ }
+        requires { ⌜ clock < 2 ^ 48 ⌝ }
         ensures { λ r. ⌜ r ≡ repeated self segment clock ⌝ }
     {
         let side = self.side;
@@ -333,7 +356,7 @@ impl Connection {
 
     // After the SYN+ACK.
     fn answered(self, segment: Segment, clock: u64) -> Connection
-        requires { ⌜ clock < 281474976710656 ⌝ }
+        requires { ⌜ clock < 2 ^ 48 ⌝ }
         ensures { λ r. ⌜ r ≡ answered self segment clock ⌝ }
     {
         let side = self.side;
@@ -369,12 +392,13 @@ impl Connection {
 
     // After a segment from stage 2 on.
     fn carried(self, sender: usize, segment: Segment, clock: u64) -> Connection
-        requires { ⌜ (sender < 2) × (clock < 281474976710656) ⌝ }
+        requires { ⌜ (sender < 2) × (clock < 2 ^ 48) ⌝ }
         ensures { λ r. ⌜ r ≡ carried self sender segment clock ⌝ }
     {
         let side = self.side;
-        let fins = fins_after(self.fins, sender, segment);
-        let stage = stage_after(self.stage, fins, sender, segment);
+        let flags = segment.flags;
+        let fins = fins_after(self.fins, sender, flags);
+        let stage = stage_after(self.stage, fins, sender, flags);
         let deadline = clock + life(stage);
         let ends = self.written(sender, segment);
         Connection {
@@ -386,9 +410,9 @@ impl Connection {
         }
     }
 
-    // The connection that a pass at this clock leaves; a reset frees it.
+    // The connection that a pass at this clock used leaves; a reset frees it.
     pub fn passed(self, sender: usize, segment: Segment, clock: u64) -> Connection
-        requires { ⌜ (sender < 2) × (clock < 281474976710656) ⌝ }
+        requires { ⌜ (sender < 2) × (clock < 2 ^ 48) ⌝ }
         ensures { λ r. ⌜ r ≡ passed self sender segment clock ⌝ }
     {
         let flags = segment.flags;
@@ -396,12 +420,12 @@ impl Connection {
         if flags / 4 % 2 == 1 {
             return no_connection();
         }
-        if stage != 1 {
-            return self.carried(sender, segment, clock);
+        match stage {
+            1 => match sender {
+                0 => self.repeated(segment, clock),
+                _ => self.answered(segment, clock),
+            },
+            _ => self.carried(sender, segment, clock),
         }
-        if sender == 0 {
-            return self.repeated(segment, clock);
-        }
-        self.answered(segment, clock)
     }
 }

@@ -1,6 +1,6 @@
 -- Demand 2 for one connection.
-use Prim.Native.Nat.{ℕ, zero, suc, _+_, _-_, _^_, _<_, _≤_, max}
-use mathlib.Core.Path.{_≡_, refl, sym, ap, _∙_}
+use Prim.Native.Nat.{ℕ, zero, suc, _+_, _-_, _^_, _<_, _≤_}
+use mathlib.Core.Path.{_≡_, refl, ap, _∙_}
 use mathlib.Core.Bool.{Bool, true, false}
 use mathlib.Core.Logic.{_⊎_, inl, inr, ⊎-elim}
 use mathlib.Core.List.{List, [], _∷_}
@@ -8,21 +8,19 @@ use native.Mathlib.Omega.{arith}
 use lib.Dec.{eqb}
 use borrow.Author.Tests.{eqb-true, eqb-false}
 use Rattle.choice.specs.Choice.{if_then_else_}
-use Rattle.choice.proofs.Choice.{if-=, if-=-not, if-≠-not, if-true}
+use Rattle.choice.proofs.Choice.{if-=, if-=-not}
 use Rattle.serial.specs.Ring.{wrap, nearest}
-use Rattle.serial.proofs.Ring.{wrap-injective, wrap-id, wrap-turn, wrap-nearest, nearest-near}
-use Rattle.segment.specs.Flags.{fin, rst, ack, SYN}
+use Rattle.serial.proofs.Ring.{wrap-id, wrap-turn, wrap-nearest, nearest-near}
+use Rattle.segment.specs.Flags.{rst, ack, SYN}
 use Rattle.segment.specs.declared.Segment.{Segment}
-use Rattle.connection.specs.Ends.{unheard, opening}
-use Rattle.connection.specs.Ranges.{ackRange}
-use Rattle.connection.specs.Stages.{finsAfter}
+use Rattle.connection.specs.Ends.{unheard}
 use Rattle.connection.specs.Decision.{verdictOn, free, opened, passed}
 use Rattle.connection.specs.declared.Connection.{Connection}
 use Rattle.connection.specs.declared.Verdict.{Verdict}
 use Rattle.connection.specs.declared.Verdict.the-variants.{Pass, NotAllowed, SequenceMissed, AckMissed}
-use Rattle.history.specs.Numbers.{Numbers, onRing, Spans}
-use Rattle.history.specs.History.{LineSegment, numbersOf, stageOf, finsOf, onWire, standsBy, placedBy, placed, judge, Holds, Formed, Readable}
-use Rattle.history.specs.Follows.{Offer, LegalOffer, LegalOffers, offered, leftBy, AfterPass, After, Follows}
+use Rattle.history.specs.Numbers.{Numbers}
+use Rattle.history.specs.History.{LineSegment, numbersOf, onWire, standsBy, placedBy, placed, judge, Holds, Formed, Readable}
+use Rattle.history.specs.Demand2.{Presented, Legal, AllLegal, onLine, answerTo, judgedOver, leftBy, passes, connectionAfter, historyAfter, NoReset, openingHistory, Agree, Demand2}
 use Rattle.history.proofs.Step.{Near}
 use Rattle.history.proofs.Verdict.{Unanswered, Answered, judged-answered, judged-unanswered}
 use Rattle.history.proofs.Pass.{opener-begins, opened-unanswered, opened-holds, answerer-begins, carried-holds, carried-answered, repeated-holds, repeated-unanswered, answered-holds, answered-answered}
@@ -33,7 +31,7 @@ use Rattle.history.proofs.Pass.{opener-begins, opened-unanswered, opene
 abbrev Up : ℕ → Type 0
 Up E = (E ≡ 0) ⊎ (2 ^ 32 ≤ E)
 
-stands-nearest : (E s : ℕ) → 2 ^ 32 ≤ E → standsBy E s ≡ nearest E s
+pub stands-nearest : (E s : ℕ) → 2 ^ 32 ≤ E → standsBy E s ≡ nearest E s
 stands-nearest E s turned = if-=-not _ _ (λ (z : E ≡ 0). omega arith)
 
 pub wrap-stands : (E s : ℕ) → Up E → s < 2 ^ 32 → wrap (standsBy E s) ≡ s
@@ -78,100 +76,95 @@ numbers-rise : (i : ℕ) (p : LineSegment) (h : List LineSegment) → numbersOf 
 unfolding numbersOf
 numbers-rise i p h = omega arith
 
-module _ (c : Connection) (h : List LineSegment) (holds : Holds c h) (reached : Reached h) (o : Offer) (legal : LegalOffer o) where
-  wire : onWire (offered h o) ≡ o .segment
+module _ (c : Connection) (h : List LineSegment) (holds : Holds c h) (reached : Reached h) (o : Presented) (legal : Legal o) where
+  wire : onWire (onLine h o) ≡ o .segment
   wire =
       onWire-placedBy (numbersOf (o .sender) h .end) (numbersOf (1 - o .sender) h .end) (o .sender) (o .segment) (legal .readable)
       (reached-up h reached (o .sender) (legal .sender-known)) (reached-up h reached (1 - o .sender) (omega arith))
 
-  formed : Formed (offered h o)
+  formed : Formed (onLine h o)
   formed = placed-formed (numbersOf (o .sender) h .end) (numbersOf (1 - o .sender) h .end) (o .sender) (o .segment) (legal .readable)
 
-  judged-on-wire : Reached h → verdictOn c (o .sender) (onWire (offered h o)) ≡ judge h (offered h o)
+  judged-on-wire : Reached h → verdictOn c (o .sender) (onWire (onLine h o)) ≡ judge h (onLine h o)
   judged-on-wire (unanswered u turned) =
-      judged-unanswered c h holds (offered h o) (legal .sender-known) u
+      judged-unanswered c h holds (onLine h o) (legal .sender-known) u
       (λ (e : o .sender ≡ 0). rw e (stands-near (numbersOf 0 h .end) (o .segment .seq .0) turned))
       (λ (e : o .sender ≡ 1). rw e (stands-near (numbersOf 0 h .end) (o .segment .ack .0) turned))
   judged-on-wire (answered a turned) =
-      judged-answered c h holds (offered h o) (legal .sender-known) a
+      judged-answered c h holds (onLine h o) (legal .sender-known) a
       (stands-near (numbersOf (o .sender) h .end) (o .segment .seq .0) (turned (o .sender) (legal .sender-known)))
       (λ acks. stands-near (numbersOf (1 - o .sender) h .end) (o .segment .ack .0) (turned (1 - o .sender) (omega arith)))
 
   -- the answer is the judgement
-  pub judged : verdictOn c (o .sender) (o .segment) ≡ judge h (offered h o)
+  pub judged : verdictOn c (o .sender) (o .segment) ≡ judge h (onLine h o)
   judged = rw wire at (judged-on-wire reached)
 
   -- a pass that is no reset
-  module _ (no-reset : rst (o .segment .flags) ≡ 1 → ⊥) (pass : judge h (offered h o) ≡ Pass) where
+  module _ (no-reset : rst (o .segment .flags) ≡ 1 → ⊥) (pass : judge h (onLine h o) ≡ Pass) where
     -- a line that begins, begins a turn up
-    begins-up : Unanswered h → o .sender ≡ 1 → 2 ^ 32 ≤ numbersOf 1 (offered h o ∷ h) .end
+    begins-up : Unanswered h → o .sender ≡ 1 → 2 ^ 32 ≤ numbersOf 1 (onLine h o ∷ h) .end
     begins-up u answerer =
-        let start : offered h o .start ≡ o .segment .seq .0 + 2 ^ 32 =
+        let start : onLine h o .start ≡ o .segment .seq .0 + 2 ^ 32 =
         if-= _ _ (ap (λ (i : ℕ). numbersOf i h .end) answerer ∙ ap (λ (x : Numbers). x .end) (u .unheard)) in
-        let end = ap (λ (x : Numbers). x .end) (answerer-begins c h holds (offered h o) formed pass u answerer no-reset) in
+        let end = ap (λ (x : Numbers). x .end) (answerer-begins c h holds (onLine h o) formed pass u answerer no-reset) in
         omega (arith, start, end)
 
-    on-wire-holds : Reached h → Holds (passed c (o .sender) (onWire (offered h o)) (o .now)) (offered h o ∷ h) × Reached (offered h o ∷ h)
+    on-wire-holds : Reached h → Holds (passed c (o .sender) (onWire (onLine h o)) (o .now)) (onLine h o ∷ h) × Reached (onLine h o ∷ h)
     on-wire-holds (unanswered u turned) = by-sender (eqb (o .sender) 0) refl
       where
-        by-sender : (t : Bool) → eqb (o .sender) 0 ≡ t → Holds (passed c (o .sender) (onWire (offered h o)) (o .now)) (offered h o ∷ h) × Reached (offered h o ∷ h)
+        by-sender : (t : Bool) → eqb (o .sender) 0 ≡ t → Holds (passed c (o .sender) (onWire (onLine h o)) (o .now)) (onLine h o ∷ h) × Reached (onLine h o ∷ h)
         by-sender true e =
             let opener = eqb-true (o .sender) 0 e in (
-              repeated-holds c h holds (offered h o) formed pass u opener (o .now),
-              unanswered (repeated-unanswered c h holds (offered h o) formed pass u opener) (omega (arith, turned, numbers-rise 0 (offered h o) h)),
+              repeated-holds c h holds (onLine h o) formed pass u opener (o .now),
+              unanswered (repeated-unanswered c h holds (onLine h o) formed pass u opener) (omega (arith, turned, numbers-rise 0 (onLine h o) h)),
             )
         by-sender false e =
             let answerer : o .sender ≡ 1 = omega (arith, eqb-false (o .sender) 0 e, legal .sender-known) in (
-              answered-holds c h holds (offered h o) formed pass u answerer no-reset (o .now),
-              answered (answered-answered c h holds (offered h o) formed pass u answerer no-reset)
-                  (pick-two (λ i. 2 ^ 32 ≤ numbersOf i (offered h o ∷ h) .end) (omega (arith, turned, numbers-rise 0 (offered h o) h)) (begins-up u answerer)),
+              answered-holds c h holds (onLine h o) formed pass u answerer no-reset (o .now),
+              answered (answered-answered c h holds (onLine h o) formed pass u answerer no-reset)
+                  (pick-two (λ i. 2 ^ 32 ≤ numbersOf i (onLine h o ∷ h) .end) (omega (arith, turned, numbers-rise 0 (onLine h o) h)) (begins-up u answerer)),
             )
     on-wire-holds (answered a turned) = (
-      carried-holds c h holds (offered h o) (legal .sender-known) formed no-reset pass a (o .now),
-      answered (carried-answered c h holds (offered h o) (legal .sender-known) formed no-reset pass a)
-          (λ i s. omega (arith, turned i s, numbers-rise i (offered h o) h)),
+      carried-holds c h holds (onLine h o) (legal .sender-known) formed no-reset pass a (o .now),
+      answered (carried-answered c h holds (onLine h o) (legal .sender-known) formed no-reset pass a)
+          (λ i s. omega (arith, turned i s, numbers-rise i (onLine h o) h)),
     )
 
-    pub pass-holds : Holds (leftBy c o) (offered h o ∷ h) × Reached (offered h o ∷ h)
+    pub pass-holds : Holds (leftBy c o) (onLine h o ∷ h) × Reached (onLine h o ∷ h)
     pass-holds = rw wire at (on-wire-holds reached)
 
 -- a reset frees, in any stage
-pub reset-frees : (c : Connection) (o : Offer) → rst (o .segment .flags) ≡ 1 → leftBy c o ≡ free
+pub reset-frees : (c : Connection) (o : Presented) → rst (o .segment .flags) ≡ 1 → leftBy c o ≡ free
 unfolding passed
 reset-frees c o reset = if-= _ _ reset
 
 -- The theorem, from any history reached
 
-module _ (c : Connection) (h : List LineSegment) (holds : Holds c h) (reached : Reached h) (o : Offer) (legal : LegalOffer o) (on : Connection → List LineSegment → Type 0) (goes-on : (c' : Connection) (h' : List LineSegment) → Holds c' h' → Reached h' → on c' h') where
-  after-pass : judge h (offered h o) ≡ Pass → (t : Bool) → eqb (rst (o .segment .flags)) 1 ≡ t → AfterPass t c h o on
-  after-pass pass true e = reset-frees c o (eqb-true _ _ e)
-  after-pass pass false e =
-      let k = pass-holds c h holds reached o legal (eqb-false _ _ e) pass in (k .0, goes-on (leftBy c o) (offered h o ∷ h) (k .0) (k .1))
+module _ (c : Connection) (h : List LineSegment) (holds : Holds c h) (reached : Reached h) (o : Presented) (legal : Legal o) where
+  module _ (no-reset : judgedOver h o ≡ Pass → rst (o .segment .flags) ≡ 1 → ⊥) where
+    by-answer : (v : Verdict) → judgedOver h o ≡ v → let h' = if passes v then onLine h o ∷ h else h in Holds (if passes v then leftBy c o else c) h' × Reached h'
+    unfolding if_then_else_
+    by-answer Pass e = pass-holds c h holds reached o legal (no-reset e) e
+    by-answer NotAllowed e = (holds, reached)
+    by-answer SequenceMissed e = (holds, reached)
+    by-answer AckMissed e = (holds, reached)
 
-  after : (v : Verdict) → judge h (offered h o) ≡ v → After v c h o on
-  after Pass e = after-pass e (eqb (rst (o .segment .flags)) 1) refl
-  after NotAllowed e = goes-on c h holds reached
-  after SequenceMissed e = goes-on c h holds reached
-  after AckMissed e = goes-on c h holds reached
+    step : let h' = if passes (judgedOver h o) then onLine h o ∷ h else h in Holds (if passes (answerTo c o) then leftBy c o else c) h' × Reached h'
+    step = rw (judged c h holds reached o legal) (by-answer (judgedOver h o) refl)
 
-pub follows : (l : List Offer) (c : Connection) (h : List LineSegment) → LegalOffers l → Holds c h → Reached h → Follows l c h
-unfolding LegalOffers Follows
-follows [] c h legal holds reached = tt
-follows (o ∷ l) c h legal holds reached = (
-  judged c h holds reached o (legal .0),
-  after c h holds reached o (legal .0) (Follows l) (λ c' h' holds' reached'. follows l c' h' (legal .1) holds' reached') (judge h (offered h o)) refl,
-)
+  pub agree : Agree c h o
+  agree = record { holds = holds; answer = judged c h holds reached o legal; freed = λ pass reset. reset-frees c o reset }
+
+pub after-all : (c : Connection) (h : List LineSegment) → Holds c h → Reached h → (l : List Presented) → AllLegal l → NoReset h l → Holds (connectionAfter c l) (historyAfter h l) × Reached (historyAfter h l)
+unfolding AllLegal NoReset connectionAfter historyAfter
+after-all c h holds reached [] legal no-reset = (holds, reached)
+after-all c h holds reached (o ∷ l) legal no-reset =
+    let before = after-all c h holds reached l (legal .1) (no-reset .0) in
+    step (connectionAfter c l) (historyAfter h l) (before .0) (before .1) o (legal .0) (no-reset .1)
 
 -- From an opening
 
--- the history of an opening SYN alone
-abbrev pub openingHistory : Segment → List LineSegment
-openingHistory g = placed [] 0 g ∷ []
-
 module _ (side : ℕ) (g : Segment) (now : ℕ) (r : Readable g) (a-syn : g .flags ≡ SYN) where
-  first : LineSegment
-  first = placed [] 0 g
-
   formed-first : Formed (placed [] 0 g)
   formed-first = placed-formed (numbersOf 0 [] .end) (numbersOf 1 [] .end) 0 g r
 
@@ -188,13 +181,7 @@ module _ (side : ℕ) (g : Segment) (now : ℕ) (r : Readable g) (a-syn : g .fla
       let end = ap (λ (x : Numbers). x .end) (opener-begins (placed [] 0 g) refl a-syn formed-first) in
       unanswered (opened-unanswered (placed [] 0 g) refl a-syn formed-first) (omega (arith, up, end))
 
-  pub demand2 : (l : List Offer) → LegalOffers l → Holds (opened side g now) (openingHistory g) × Follows l (opened side g now) (openingHistory g)
-  demand2 l legal = (holds-first, follows l (opened side g now) (openingHistory g) legal holds-first reached-first)
-
--- Where the bounds are met, the place is the only one
-
-pub start-unique : (F T : Numbers) (S S' n : ℕ) → Spans F → Spans T → F .end ≤ S + T .win → S + n ≤ F .edge → F .end ≤ S' + T .win → S' + n ≤ F .edge → wrap S ≡ wrap S' → S ≡ S'
-start-unique F T S S' n f t low high low' high' same = wrap-injective S S' same (omega (arith, f .near, t .win-most)) (omega (arith, f .near, t .win-most))
-
-pub ack-unique : (T : Numbers) (A A' : ℕ) → A ≤ T .end → T .end ≤ A + ackRange → A' ≤ T .end → T .end ≤ A' + ackRange → wrap A ≡ wrap A' → A ≡ A'
-ack-unique T A A' high low high' low' same = wrap-injective A A' same (omega arith) (omega arith)
+pub demand2 : Demand2
+demand2 side g now r a-syn l legal no-reset o next =
+    let k = after-all (opened side g now) (openingHistory g) (holds-first side g now r a-syn) (reached-first side g now r a-syn) l legal no-reset in
+    agree (connectionAfter (opened side g now) l) (historyAfter (openingHistory g) l) (k .0) (k .1) o next

@@ -2,4 +2,5 @@ pub mod Step
 pub mod Verdict
 pub mod Pass
 pub mod Demand2
+pub mod Places
 pub mod Sound

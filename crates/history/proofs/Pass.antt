@@ -1,11 +1,10 @@
 -- A pass: the connection that it leaves holds the history with the segment on top.
-use Prim.Native.Nat.{ℕ, zero, suc, _+_, _-_, _^_, _<_, _≤_, max}
+use Prim.Native.Nat.{ℕ, zero, suc, _+_, _-_, _<_, _≤_, max}
 use mathlib.Core.Path.{_≡_, refl, sym, ap, _∙_}
 use mathlib.Core.Bool.{Bool, true, false, _&&_, _||_, not}
-use mathlib.Core.Logic.{_⊎_, inl, inr}
 use mathlib.Core.List.{List, [], _∷_}
 use native.Mathlib.Omega.{arith}
-use lib.Dec.{leb, eqb}
+use lib.Dec.{eqb}
 use borrow.Author.Tests.{eq-eqb, ne-eqb, eqb-true, eqb-false, leb-true}
 use Rattle.choice.specs.Choice.{if_then_else_, _≤ᵇ_, _=ᵇ_, _≠ᵇ_}
 use Rattle.choice.proofs.Choice.{if-true, if-false, if-either, if-=, if-=-not, if-≠, if-≠-not}
@@ -20,10 +19,9 @@ use Rattle.connection.specs.Stages.{finsAfter, openStage, stageAfter}
 use Rattle.connection.specs.Decision.{opened, repeated, answered, carried, passed}
 use Rattle.connection.specs.declared.Connection.{Connection}
 use Rattle.connection.specs.declared.End.{End}
-use Rattle.connection.specs.declared.Verdict.{Verdict}
 use Rattle.connection.specs.declared.Verdict.the-variants.{Pass, NotAllowed, SequenceMissed, AckMissed}
-use Rattle.history.specs.Numbers.{Numbers, onRing, widest, boundsI-II, boundsIII-IV, sentTo, grantedTo, Spans}
-use Rattle.history.specs.History.{LineSegment, endBy, edgeBy, windowBy, numbersOf, onWire, stageOf, finsOf, judgeUnanswered, judge, Holds, Formed}
+use Rattle.history.specs.Numbers.{Numbers, onRing, boundsI-II, boundsIII-IV, sentTo, grantedTo, Spans}
+use Rattle.history.specs.History.{LineSegment, endBy, edgeBy, windowBy, numbersOf, onWire, stageOf, finsOf, sameSynOnLine, replyOnLine, judgeUnanswered, judge, Holds, Formed}
 use Rattle.history.proofs.Step.{ack-near, sent-line, granted-line, sentTo-spans, grantedTo-spans}
 use Rattle.history.proofs.Verdict.{Unanswered, Answered, spans}
 
@@ -92,9 +90,9 @@ both x (suc zero) side f t = (t, f)
 both x (suc (suc i)) side f t = absurd (omega arith)
 
 -- a later segment never leads back to stage 1
-pub stageAfter≥2 : (stage fins i : ℕ) (g : Segment) → 2 ≤ stageAfter stage fins i g
+pub stageAfter≥2 : (stage fins i f : ℕ) → 2 ≤ stageAfter stage fins i f
 unfolding stageAfter openStage
-stageAfter≥2 stage fins i g =
+stageAfter≥2 stage fins i f =
     if-either (λ n. 2 ≤ n) _ _ _ (omega arith)
     (if-either (λ n. 2 ≤ n) _ _ _ (omega arith) (if-either (λ n. 2 ≤ n) _ _ _ (omega arith) (if-either (λ n. 2 ≤ n) _ _ _ (omega arith) (omega arith))))
 
@@ -116,14 +114,14 @@ module _ (c : Connection) (h : List LineSegment) (holds : Holds c h) (p : LineSe
     T : Spans (numbersOf (1 - p .from) h)
     T = spans h open-h (1 - p .from) (omega arith)
 
-    met : (boundsI-II (numbersOf (p .from) h) (numbersOf (1 - p .from) h) (p .start) (p .length) ≡ true) × (eqb (ack (p .flags)) 1 ≡ true → boundsIII-IV (numbersOf (1 - p .from) h) (p .acked) ≡ true)
+    met : (boundsI-II (numbersOf (p .from) h) (numbersOf (1 - p .from) h) (p .start) (p .length) ≡ true) × (eqb (ack (p .flags)) 1 ≡ true → boundsIII-IV ackRange (numbersOf (1 - p .from) h) (p .acked) ≡ true)
     unfolding judge
     met = ranges-met _ _ _ (sym (if-=-not _ _ (λ (e : stageOf h ≡ 1). omega (arith, open-h .stage))) ∙ pass)
 
     bounds : (numbersOf (p .from) h .end ≤ p .start + numbersOf (1 - p .from) h .win) × (p .start + p .length ≤ numbersOf (p .from) h .edge)
     bounds =
-        let b = &&-true (numbersOf (p .from) h .end ≤ᵇ p .start + numbersOf (1 - p .from) h .win) (p .start + p .length ≤ᵇ numbersOf (p .from) h .edge) (met .0) in
-        (leb-true _ _ (b .0), leb-true _ _ (b .1))
+        let b = &&-true (p .start + p .length ≤ᵇ numbersOf (p .from) h .edge) (numbersOf (p .from) h .end ≤ᵇ p .start + numbersOf (1 - p .from) h .win) (met .0) in
+        (leb-true _ _ (b .1), leb-true _ _ (b .0))
 
     acked-bounds : ack (p .flags) ≡ 1 → (p .acked ≤ numbersOf (1 - p .from) h .end) × (numbersOf (1 - p .from) h .end ≤ p .acked + ackRange)
     acked-bounds acks =
@@ -175,11 +173,11 @@ module _ (c : Connection) (h : List LineSegment) (holds : Holds c h) (p : LineSe
             let silent = eqb-false (ack (p .flags)) 1 e in
             written-unacked (λ k. onRing (numbersOf k h)) (λ k. onRing (numbersOf k (p ∷ h))) (p .from) (onWire p) side silent sender-after (unacked-after silent)
 
-    fins-after : finsAfter (c .fins) (p .from) (onWire p) ≡ finsOf (p ∷ h)
+    fins-after : finsAfter (c .fins) (p .from) (p .flags) ≡ finsOf (p ∷ h)
     unfolding finsOf
     fins-after = rw (holds .fins) (sym (if-=-not _ _ no-reset))
 
-    stage-after : stageAfter (c .stage) (finsAfter (c .fins) (p .from) (onWire p)) (p .from) (onWire p) ≡ stageOf (p ∷ h)
+    stage-after : stageAfter (c .stage) (finsAfter (c .fins) (p .from) (p .flags)) (p .from) (p .flags) ≡ stageOf (p ∷ h)
     unfolding stageOf
     stage-after =
         rw (holds .stage, fins-after)
@@ -197,7 +195,7 @@ module _ (c : Connection) (h : List LineSegment) (holds : Holds c h) (p : LineSe
     carried-answered =
         let ends = both (λ k. numbersOf k (p ∷ h)) (p .from) side sender-spans other-spans in
         record {
-          stage = rw (← stage-after) (stageAfter≥2 (c .stage) (finsAfter (c .fins) (p .from) (onWire p)) (p .from) (onWire p));
+          stage = rw (← stage-after) (stageAfter≥2 (c .stage) (finsAfter (c .fins) (p .from) (p .flags)) (p .from) (p .flags));
           opener = ends .0;
           answerer = ends .1;
         }
@@ -219,17 +217,19 @@ module _ (h : List LineSegment) (p : LineSegment) (no-reset : rst (p .flags) ≡
   unfolding finsOf finsAfter
   fins-unanswered none = if-=-not _ _ no-reset ∙ if-=-not _ _ none
 
-pub both-hold : (x y : Bool) → (if not x then NotAllowed else if not y then NotAllowed else Pass) ≡ Pass → (x ≡ true) × (y ≡ true)
+pub allowed : (t : Bool) → (if t then Pass else NotAllowed) ≡ Pass → t ≡ true
 unfolding if_then_else_
-both-hold true true e = (refl, refl)
-both-hold true false e = let z : _≡_ {A = ℕ} 0 1 = cc in absurd (omega arith)
-both-hold false y e = let z : _≡_ {A = ℕ} 0 1 = cc in absurd (omega arith)
+allowed true e = refl
+allowed false e = let z : _≡_ {A = ℕ} 0 1 = cc in absurd (omega arith)
 
-pub one-of-two : (x y : Bool) → (if not x then NotAllowed else if y then Pass else NotAllowed) ≡ Pass → (x ≡ true) × (y ≡ true)
-unfolding if_then_else_
-one-of-two true true e = (refl, refl)
-one-of-two true false e = let z : _≡_ {A = ℕ} 0 1 = cc in absurd (omega arith)
-one-of-two false y e = let z : _≡_ {A = ℕ} 0 1 = cc in absurd (omega arith)
+-- of two tests, the opener's and the answerer's, the one of the sender's
+pub of-opener : (i : ℕ) (x y : Bool) → i ≡ 0 → (((i =ᵇ 0) && x) || ((i =ᵇ 1) && y)) ≡ true → x ≡ true
+of-opener i true y opener e = refl
+of-opener i false y opener e = rw opener at e
+
+pub of-answerer : (i : ℕ) (x y : Bool) → i ≡ 1 → (((i =ᵇ 0) && x) || ((i =ᵇ 1) && y)) ≡ true → y ≡ true
+of-answerer i x true answerer e = refl
+of-answerer i x false answerer e = rw answerer at e
 
 -- the one of the two that is no reset
 pub syn-ack : (f : ℕ) → (rst f ≡ 1 → ⊥) → ((f =ᵇ SYN+ACK) || (f =ᵇ ACK+RST)) ≡ true → f ≡ SYN+ACK
@@ -253,9 +253,9 @@ module _ (c : Connection) (h : List LineSegment) (holds : Holds c h) (p : LineSe
   -- the same SYN again
   module _ (opener : p .from ≡ 0) where
     pub again : (p .flags ≡ SYN) × (p .start + 1 ≡ numbersOf 0 h .end)
-    unfolding judgeUnanswered
+    unfolding judgeUnanswered sameSynOnLine replyOnLine
     again =
-        let b = both-hold (eqb (p .flags) SYN) (eqb (p .start + 1) (numbersOf 0 h .end)) (sym (judged-by-three ∙ if-= _ _ opener) ∙ pass) in
+        let b = &&-true (eqb (p .flags) SYN) (eqb (p .start + 1) (numbersOf 0 h .end)) (of-opener (p .from) _ _ opener (allowed _ (sym judged-by-three ∙ pass))) in
         (eqb-true _ _ (b .0), eqb-true _ _ (b .1))
 
     no-reset : rst (p .flags) ≡ 1 → ⊥
@@ -306,9 +306,9 @@ module _ (c : Connection) (h : List LineSegment) (holds : Holds c h) (p : LineSe
   -- the SYN+ACK
   module _ (answerer : p .from ≡ 1) (no-reset : rst (p .flags) ≡ 1 → ⊥) where
     pub reply : (p .acked ≡ numbersOf 0 h .end) × (p .flags ≡ SYN+ACK)
-    unfolding judgeUnanswered
+    unfolding judgeUnanswered sameSynOnLine replyOnLine
     reply =
-        let b = one-of-two (eqb (p .acked) (numbersOf 0 h .end)) ((p .flags =ᵇ SYN+ACK) || (p .flags =ᵇ ACK+RST)) (sym (judged-by-three ∙ if-=-not _ _ (λ (e : p .from ≡ 0). omega arith)) ∙ pass) in
+        let b = &&-true (eqb (p .acked) (numbersOf 0 h .end)) ((p .flags =ᵇ SYN+ACK) || (p .flags =ᵇ ACK+RST)) (of-answerer (p .from) _ _ answerer (allowed _ (sym judged-by-three ∙ pass))) in
         (eqb-true _ _ (b .0), syn-ack (p .flags) no-reset (b .1))
 
     acks : ack (p .flags) ≡ 1

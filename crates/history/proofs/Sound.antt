@@ -1,41 +1,36 @@
 -- Every pass and every opening gives a sound connection from a sound one, whatever the traffic.
 use Prim.Native.Nat.{ℕ, zero, suc, _+_, _-_, _^_, _<_, _≤_, max}
 use mathlib.Core.Path.{_≡_, refl, sym, ap, _∙_}
-use mathlib.Core.Bool.{Bool, true, false, _&&_, _||_, not}
+use mathlib.Core.Bool.{Bool, true, false, _||_}
 use mathlib.Core.Logic.{inl, inr}
 use mathlib.Core.List.{List, [], _∷_}
 use native.Mathlib.Omega.{arith}
-use lib.Dec.{leb, eqb}
-use borrow.Author.Tests.{le-leb, leb-true, eq-eqb, ne-eqb, eqb-true, eqb-false}
+use lib.Dec.{eqb}
+use borrow.Author.Tests.{le-leb, leb-true, eq-eqb, eqb-true, eqb-false}
 use Rattle.choice.specs.Choice.{if_then_else_, _≤ᵇ_, _=ᵇ_}
 use Rattle.choice.proofs.Choice.{if-true, if-false, if-either, if-=, if-=-not, if-≠, if-≠-not}
 use Rattle.choice.proofs.Tests.{&&-true}
 use Rattle.serial.specs.Ring.{wrap, ringPlus, ringMinus}
-use Rattle.serial.specs.Serial.{seqMinus}
 use Rattle.serial.proofs.Ring.{wrap-injective, wrap-minus, wrap-counted, wrap-turn, wrap-id}
 use Rattle.segment.specs.Flags.{rst, ack, SYN+ACK, ACK+RST}
 use Rattle.segment.specs.declared.Segment.{Segment}
 use Rattle.connection.specs.Ends.{sender, other, sent, granted, opening, written, unheard}
-use Rattle.connection.specs.Ranges.{sequenceMet, ackMet}
-use Rattle.connection.specs.Stages.{lifeOf, withFin, finsAfter, openStage, stageAfter}
-use Rattle.connection.specs.Decision.{opened, repeated, answered, carried, passed, verdictUnanswered, verdictByRanges, verdictOn}
+use Rattle.connection.specs.Ranges.{sequenceMet, ackRange, ackMet, widest}
+use Rattle.connection.specs.Stages.{longestLife, lifeOf, withFin, finsAfter, openStage, stageAfter}
+use Rattle.connection.specs.Decision.{opened, repeated, answered, carried, passed, sameSyn, reply, verdictUnanswered, verdictByRanges, verdictOn}
 use Rattle.connection.specs.Sound.{soundFins, soundEnd, soundUnanswered, soundConnection}
 use Rattle.connection.specs.declared.Connection.{Connection}
 use Rattle.connection.specs.declared.End.{End}
 use Rattle.connection.specs.declared.Verdict.the-variants.{Pass}
-use Rattle.history.specs.Numbers.{Numbers, onRing, widest, Spans}
-use Rattle.history.specs.History.{LineSegment, onWire, standsBy, placedBy, Formed, Readable}
+use Rattle.history.specs.Numbers.{Numbers, onRing, Spans}
+use Rattle.history.specs.History.{LineSegment, onWire, placedBy, Formed, Readable}
+use Rattle.history.specs.Records.{Fits, TwoEnds}
 use Rattle.history.proofs.Step.{Near, sequence-line, ack-line, sent-line, granted-line, sentTo-spans, grantedTo-spans}
 use Rattle.history.proofs.Verdict.{two-sender, two-other}
-use Rattle.history.proofs.Pass.{opening-line, stageAfter≥2, ranges-met, one-of-two}
-use Rattle.history.proofs.Demand2.{wrap-stands, stands-near, onWire-placedBy, placed-formed, pick-two}
+use Rattle.history.proofs.Pass.{opening-line, stageAfter≥2, ranges-met, allowed, of-answerer}
+use Rattle.history.proofs.Demand2.{stands-near, onWire-placedBy, placed-formed, pick-two}
 
 -- One record
-
--- its numbers are below 2^32, as its type has them
-pub record Fits (e : End) : Type 0 where
-  pub end : e .end .0 < 2 ^ 32
-  pub edge : e .edge .0 < 2 ^ 32
 
 -- numbers on the line that a record stands for, a turn up
 abbrev pub lifted : End → Numbers
@@ -52,21 +47,21 @@ pub lifted-spans : (e : End) → soundEnd e ≡ true → Spans (lifted e)
 unfolding soundEnd
 lifted-spans e sound =
     let a = &&-true (1 ≤ᵇ e .win .0) _ sound in
-    let b = &&-true (e .win .0 ≤ᵇ 65535) _ (a .1) in
-    let near = leb-true (ringMinus (e .edge .0) (e .end .0)) 65535 (b .1) in
+    let b = &&-true (e .win .0 ≤ᵇ widest) _ (a .1) in
+    let near = leb-true (ringMinus (e .edge .0) (e .end .0)) widest (b .1) in
     record {
       begun = omega arith;
       ordered = omega arith;
       near = omega arith;
       win-some = leb-true 1 (e .win .0) (a .0);
-      win-most = leb-true (e .win .0) 65535 (b .0);
+      win-most = leb-true (e .win .0) widest (b .0);
     }
 
 pub spans-sound : (x : Numbers) → Spans x → soundEnd (onRing x) ≡ true
 unfolding soundEnd
 spans-sound x s =
-    let ahead : ringMinus (wrap (x .edge)) (wrap (x .end)) ≤ 65535 = omega (arith, s .near, wrap-minus (x .edge) (x .end) (s .ordered) (omega (arith, s .near))) in
-    rw (le-leb 1 (x .win) (s .win-some), le-leb (x .win) 65535 (s .win-most), le-leb (ringMinus (wrap (x .edge)) (wrap (x .end))) 65535 ahead)
+    let ahead : ringMinus (wrap (x .edge)) (wrap (x .end)) ≤ widest = omega (arith, s .near, wrap-minus (x .edge) (x .end) (s .ordered) (omega (arith, s .near))) in
+    rw (le-leb 1 (x .win) (s .win-some), le-leb (x .win) widest (s .win-most), le-leb (ringMinus (wrap (x .edge)) (wrap (x .end))) widest ahead)
 
 -- an end that gets a right edge by an acknowledgement of no more than it sent
 granted-sound : (e : End) (p : LineSegment) → Fits e → Formed p → soundEnd e ≡ true → Near (lifted e .end) (p .acked) → p .acked ≤ lifted e .end → soundEnd (granted e (onWire p)) ≡ true
@@ -82,14 +77,14 @@ opening-sound p formed =
     (spans-sound _ record { begun = omega arith; ordered = omega arith; near = omega arith; win-some = omega arith; win-most = omega (arith, formed .window-fits) })
 
 -- a larger window
-widened-sound : (e : End) (w : ℕ) → w ≤ 65535 → soundEnd e ≡ true → soundEnd (record { end = e .end; edge = e .edge; win = record { 0 = max (e .win .0) w } }) ≡ true
+widened-sound : (e : End) (w : ℕ) → w ≤ widest → soundEnd e ≡ true → soundEnd (record { end = e .end; edge = e .edge; win = record { 0 = max (e .win .0) w } }) ≡ true
 unfolding soundEnd
 widened-sound e w small sound =
     let a = &&-true (1 ≤ᵇ e .win .0) _ sound in
-    let b = &&-true (e .win .0 ≤ᵇ 65535) _ (a .1) in
+    let b = &&-true (e .win .0 ≤ᵇ widest) _ (a .1) in
     let some = leb-true 1 (e .win .0) (a .0) in
-    let most = leb-true (e .win .0) 65535 (b .0) in
-    rw (le-leb 1 (max (e .win .0) w) (omega arith), le-leb (max (e .win .0) w) 65535 (omega arith)) (b .1)
+    let most = leb-true (e .win .0) widest (b .0) in
+    rw (le-leb 1 (max (e .win .0) w) (omega arith), le-leb (max (e .win .0) w) widest (omega arith)) (b .1)
 
 -- A connection
 
@@ -99,7 +94,7 @@ pub record Facts (clock : ℕ) (c : Connection) : Type 0 where
   pub stage-most : c .stage ≤ 5
   pub side : c .side ≤ 1
   pub fins : soundFins (c .stage) (c .fins) ≡ true
-  pub deadline : c .deadline ≤ clock + 432000000
+  pub deadline : c .deadline ≤ clock + longestLife
   pub opener : soundEnd (sender (c .ends) 0) ≡ true
   pub answerer : soundEnd (sender (c .ends) 1) ≡ true
   pub unanswered : soundUnanswered (c .stage) (sender (c .ends) 0) (sender (c .ends) 1) ≡ true
@@ -111,7 +106,7 @@ sound-facts clock c sound =
     let a2 = &&-true (c .stage ≤ᵇ 5) _ (a1 .1) in
     let a3 = &&-true (c .side ≤ᵇ 1) _ (a2 .1) in
     let a4 = &&-true (soundFins (c .stage) (c .fins)) _ (a3 .1) in
-    let a5 = &&-true (c .deadline ≤ᵇ clock + 432000000) _ (a4 .1) in
+    let a5 = &&-true (c .deadline ≤ᵇ clock + longestLife) _ (a4 .1) in
     let a6 = &&-true (soundEnd (sender (c .ends) 0)) _ (a5 .1) in
     let a7 = &&-true (soundEnd (sender (c .ends) 1)) _ (a6 .1) in
     record {
@@ -119,7 +114,7 @@ sound-facts clock c sound =
       stage-most = leb-true (c .stage) 5 (a2 .0);
       side = leb-true (c .side) 1 (a3 .0);
       fins = a4 .0;
-      deadline = leb-true (c .deadline) (clock + 432000000) (a5 .0);
+      deadline = leb-true (c .deadline) (clock + longestLife) (a5 .0);
       opener = a6 .0;
       answerer = a7 .0;
       unanswered = a7 .1;
@@ -133,26 +128,33 @@ facts-sound clock c f =
       le-leb (c .stage) 5 (f .stage-most),
       le-leb (c .side) 1 (f .side),
       f .fins,
-      le-leb (c .deadline) (clock + 432000000) (f .deadline),
+      le-leb (c .deadline) (clock + longestLife) (f .deadline),
       f .opener,
       f .answerer,
     )
     (f .unanswered)
 
-lifeOf≤ : (stage : ℕ) → lifeOf stage ≤ 432000000
+lifeOf≤ : (stage : ℕ) → lifeOf stage ≤ longestLife
 unfolding lifeOf
 lifeOf≤ stage =
-    if-either (λ n. n ≤ 432000000) _ _ _ (omega arith)
-    (if-either (λ n. n ≤ 432000000) _ _ _ (omega arith)
-    (if-either (λ n. n ≤ 432000000) _ _ _ (omega arith)
-    (if-either (λ n. n ≤ 432000000) _ _ _ (omega arith) (omega arith))))
+    if-either (λ n. n ≤ longestLife) _ _ _ (omega arith)
+    (if-either (λ n. n ≤ longestLife) _ _ _ (omega arith)
+    (if-either (λ n. n ≤ longestLife) _ _ _ (omega arith)
+    (if-either (λ n. n ≤ longestLife) _ _ _ (omega arith) (omega arith))))
 
 -- Stage and FIN bits
 
-finsAfter≤3 : (fins i : ℕ) (g : Segment) → fins ≤ 3 → i < 2 → finsAfter fins i g ≤ 3
-unfolding finsAfter withFin
-finsAfter≤3 fins i g small side =
-    if-either (λ n. n ≤ 3) _ _ _ (if-either (λ n. n ≤ 3) _ _ _ (omega arith) (if-either (λ n. n ≤ 3) _ _ _ (omega arith) (omega arith))) small
+withFin≤3 : (fins i : ℕ) → fins ≤ 3 → withFin fins i ≤ 3
+unfolding withFin if_then_else_
+withFin≤3 zero i small = if-either (λ n. n ≤ 3) (i =ᵇ 0) _ _ (omega arith) (omega arith)
+withFin≤3 (suc zero) i small = if-either (λ n. n ≤ 3) (i =ᵇ 0) _ _ (omega arith) (omega arith)
+withFin≤3 (suc (suc zero)) i small = if-either (λ n. n ≤ 3) (i =ᵇ 0) _ _ (omega arith) (omega arith)
+withFin≤3 (suc (suc (suc zero))) i small = if-either (λ n. n ≤ 3) (i =ᵇ 0) _ _ (omega arith) (omega arith)
+withFin≤3 (suc (suc (suc (suc fins)))) i small = absurd (omega arith)
+
+finsAfter≤3 : (fins i f : ℕ) → fins ≤ 3 → finsAfter fins i f ≤ 3
+unfolding finsAfter
+finsAfter≤3 fins i f small = if-either (λ n. n ≤ 3) _ _ _ (withFin≤3 fins i small) small
 
 -- the stage that the FIN bits give is sound with them
 record SoundStage (stage fins : ℕ) : Type 0 where
@@ -172,18 +174,18 @@ sound-3 : SoundStage 3 0
 unfolding soundFins if_then_else_
 sound-3 = record { some = omega arith; most = omega arith; bits = refl }
 
-openStage-sound : (stage i : ℕ) (g : Segment) → SoundStage (openStage stage i g) 0
+openStage-sound : (stage i f : ℕ) → SoundStage (openStage stage i f) 0
 unfolding openStage
-openStage-sound stage i g =
+openStage-sound stage i f =
     if-either (λ s. SoundStage s 0) _ _ _ sound-3 (if-either (λ s. SoundStage s 0) _ _ _ sound-3 sound-2)
 
-stageAfter-sound : (stage fins i : ℕ) (g : Segment) → fins ≤ 3 → SoundStage (stageAfter stage fins i g) fins
+stageAfter-sound : (stage fins i f : ℕ) → fins ≤ 3 → SoundStage (stageAfter stage fins i f) fins
 unfolding stageAfter soundFins if_then_else_
-stageAfter-sound stage zero i g small = openStage-sound stage i g
-stageAfter-sound stage (suc zero) i g small = record { some = omega arith; most = omega arith; bits = refl }
-stageAfter-sound stage (suc (suc zero)) i g small = record { some = omega arith; most = omega arith; bits = refl }
-stageAfter-sound stage (suc (suc (suc zero))) i g small = record { some = omega arith; most = omega arith; bits = refl }
-stageAfter-sound stage (suc (suc (suc (suc fins)))) i g small = absurd (omega arith)
+stageAfter-sound stage zero i f small = openStage-sound stage i f
+stageAfter-sound stage (suc zero) i f small = record { some = omega arith; most = omega arith; bits = refl }
+stageAfter-sound stage (suc (suc zero)) i f small = record { some = omega arith; most = omega arith; bits = refl }
+stageAfter-sound stage (suc (suc (suc zero))) i f small = record { some = omega arith; most = omega arith; bits = refl }
+stageAfter-sound stage (suc (suc (suc (suc fins)))) i f small = absurd (omega arith)
 
 soundFins≤3 : (stage fins : ℕ) → soundFins stage fins ≡ true → fins ≤ 3
 unfolding soundFins
@@ -205,12 +207,6 @@ both-after P x i g side f t u = by-ack (eqb (ack (g .flags)) 1) refl i side f t 
     by-ack false e zero s f t u = rw (if-false (eqb (ack (g .flags)) 1) _ _ e) (f, u)
     by-ack false e (suc zero) s f t u = rw (if-false (eqb (ack (g .flags)) 1) _ _ e) (u, f)
     by-ack b e (suc (suc i)) s f t u = absurd (omega arith)
-
--- the records of a connection, as their type has them
-pub record TwoEnds (c : Connection) (x : ℕ → End) : Type 0 where
-  pub two : c .ends ≡ x 0 ∷ x 1 ∷ []
-  pub opener : Fits (x 0)
-  pub answerer : Fits (x 1)
 
 module _ (clock : ℕ) (c : Connection) (x : ℕ → End) (ends : TwoEnds c x) (sound : Facts clock c) (now : ℕ) (p : LineSegment) (formed : Formed p) (side : p .from < 2) (no-reset : rst (p .flags) ≡ 1 → ⊥) (pass : verdictOn c (p .from) (onWire p) ≡ Pass) where
   sound-end : (i : ℕ) → i < 2 → soundEnd (x i) ≡ true
@@ -237,17 +233,17 @@ module _ (clock : ℕ) (c : Connection) (x : ℕ → End) (ends : TwoEnds c x) (
     isT : onRing (lifted (x (1 - p .from))) ≡ x (1 - p .from)
     isT = onRing-lifted (x (1 - p .from)) (fits (1 - p .from) other-side)
 
-    met : (sequenceMet (x (p .from)) (x (1 - p .from)) (onWire p) ≡ true) × (eqb (ack (p .flags)) 1 ≡ true → ackMet (x (1 - p .from)) (onWire p) ≡ true)
+    met : (sequenceMet (x (p .from)) (x (1 - p .from)) (onWire p) ≡ true) × (eqb (ack (p .flags)) 1 ≡ true → ackMet ackRange (x (1 - p .from)) (onWire p) ≡ true)
     unfolding verdictOn verdictByRanges
     met =
         rw (ap (λ (l : List End). sender l (p .from)) (ends .two) ∙ two-sender x (p .from) side, ap (λ (l : List End). other l (p .from)) (ends .two) ∙ two-other x (p .from) side) at
-        (ranges-met (sequenceMet (sender (c .ends) (p .from)) (other (c .ends) (p .from)) (onWire p)) (eqb (ack (p .flags)) 1) (ackMet (other (c .ends) (p .from)) (onWire p)) (sym (if-=-not _ _ later) ∙ pass))
+        (ranges-met (sequenceMet (sender (c .ends) (p .from)) (other (c .ends) (p .from)) (onWire p)) (eqb (ack (p .flags)) 1) (ackMet ackRange (other (c .ends) (p .from)) (onWire p)) (sym (if-=-not _ _ later) ∙ pass))
 
     bounds : (lifted (x (p .from)) .end ≤ p .start + lifted (x (1 - p .from)) .win) × (p .start + p .length ≤ lifted (x (p .from)) .edge)
     bounds =
         let line = sequence-line (lifted (x (p .from))) (lifted (x (1 - p .from))) F T p start in
-        let b = &&-true (lifted (x (p .from)) .end ≤ᵇ p .start + lifted (x (1 - p .from)) .win) (p .start + p .length ≤ᵇ lifted (x (p .from)) .edge) (sym line ∙ rw (isF, isT) (met .0)) in
-        (leb-true _ _ (b .0), leb-true _ _ (b .1))
+        let b = &&-true (p .start + p .length ≤ᵇ lifted (x (p .from)) .edge) (lifted (x (p .from)) .end ≤ᵇ p .start + lifted (x (1 - p .from)) .win) (sym line ∙ rw (isF, isT) (met .0)) in
+        (leb-true _ _ (b .1), leb-true _ _ (b .0))
 
     acked-below : ack (p .flags) ≡ 1 → p .acked ≤ lifted (x (1 - p .from)) .end
     acked-below acks =
@@ -266,8 +262,8 @@ module _ (clock : ℕ) (c : Connection) (x : ℕ → End) (ends : TwoEnds c x) (
     unfolding passed carried soundUnanswered
     carried-sound =
         let g = onWire p in
-        let fins = finsAfter≤3 (c .fins) (p .from) g (soundFins≤3 (c .stage) (c .fins) (sound .fins)) side in
-        let stage = stageAfter-sound (c .stage) (finsAfter (c .fins) (p .from) g) (p .from) g fins in
+        let fins = finsAfter≤3 (c .fins) (p .from) (p .flags) (soundFins≤3 (c .stage) (c .fins) (sound .fins)) in
+        let stage = stageAfter-sound (c .stage) (finsAfter (c .fins) (p .from) (p .flags)) (p .from) (p .flags) fins in
         let records = both-after (λ e. soundEnd e ≡ true) x (p .from) g side sent-sound other-sound (sound-end (1 - p .from) other-side) in
         let goes : passed c (p .from) g now ≡ carried c (p .from) g now = if-=-not _ _ no-reset ∙ if-≠ _ _ later in
         rw goes
@@ -276,10 +272,10 @@ module _ (clock : ℕ) (c : Connection) (x : ℕ → End) (ends : TwoEnds c x) (
           stage-most = stage .most;
           side = sound .side;
           fins = stage .bits;
-          deadline = omega (arith, lifeOf≤ (stageAfter (c .stage) (finsAfter (c .fins) (p .from) g) (p .from) g));
+          deadline = omega (arith, lifeOf≤ (stageAfter (c .stage) (finsAfter (c .fins) (p .from) (p .flags)) (p .from) (p .flags)));
           opener = rw (ends .two) (records .0);
           answerer = rw (ends .two) (records .1);
-          unanswered = if-=-not _ _ (λ (e : stageAfter (c .stage) (finsAfter (c .fins) (p .from) g) (p .from) g ≡ 1). omega (arith, stageAfter≥2 (c .stage) (finsAfter (c .fins) (p .from) g) (p .from) g));
+          unanswered = if-=-not _ _ (λ (e : stageAfter (c .stage) (finsAfter (c .fins) (p .from) (p .flags)) (p .from) (p .flags) ≡ 1). omega (arith, stageAfter≥2 (c .stage) (finsAfter (c .fins) (p .from) (p .flags)) (p .from) (p .flags)));
         })
 
   -- the same SYN again, and the SYN+ACK
@@ -302,9 +298,9 @@ module _ (clock : ℕ) (c : Connection) (x : ℕ → End) (ends : TwoEnds c x) (
 
     -- the SYN+ACK acknowledges just what the opener sent
     acks-end : p .from ≡ 1 → Near (lifted (x 0) .end) (p .acked) → p .acked ≡ lifted (x 0) .end
-    unfolding verdictOn verdictUnanswered
+    unfolding verdictOn verdictUnanswered sameSyn reply
     acks-end answerer near =
-        let b = one-of-two (eqb (wrap (p .acked)) (sender (c .ends) 0 .end .0)) ((p .flags =ᵇ SYN+ACK) || (p .flags =ᵇ ACK+RST)) (sym (if-= _ _ first ∙ if-=-not _ _ (λ (e : p .from ≡ 0). omega arith)) ∙ pass) in
+        let b = &&-true (eqb (wrap (p .acked)) (sender (c .ends) 0 .end .0)) ((p .flags =ᵇ SYN+ACK) || (p .flags =ᵇ ACK+RST)) (of-answerer (p .from) _ _ answerer (allowed _ (sym (if-= _ _ first) ∙ pass))) in
         let acked : wrap (p .acked) ≡ x 0 .end .0 = rw (ends .two) at (eqb-true (wrap (p .acked)) (sender (c .ends) 0 .end .0) (b .0)) in
         let same : x 0 .end .0 ≡ wrap (lifted (x 0) .end) = sym (wrap-turn (x 0 .end .0) ∙ wrap-id (x 0 .end .0) (ends .opener .end)) in
         wrap-injective (p .acked) (lifted (x 0) .end) (acked ∙ same) (omega (arith, near .high)) (omega (arith, near .low))

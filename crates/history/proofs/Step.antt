@@ -1,15 +1,14 @@
 -- One segment against two ends' numbers: what the ring says is what the line says, and what is written stands for the maxima.
-use Prim.Native.Nat.{ℕ, _+_, _-_, _^_, _<_, _≤_, max}
-use mathlib.Core.Path.{_≡_, refl, sym, ap, _∙_}
+use Prim.Native.Nat.{ℕ, _+_, _^_, _<_, _≤_, max}
+use mathlib.Core.Path.{_≡_, ap, _∙_}
 use native.Mathlib.Omega.{arith}
 use Rattle.choice.proofs.Tests.{leb≡both}
-use Rattle.serial.specs.Ring.{wrap, ringPlus, ringMinus}
-use Rattle.serial.specs.Serial.{further}
+use Rattle.serial.specs.Serial.{seqAt, further}
 use Rattle.serial.proofs.Ring.{range-wrap, range-unwrap, ack-wrap, ack-unwrap, wrap-plus}
-use Rattle.serial.proofs.Serial.{seqAt, further-wrap}
+use Rattle.serial.proofs.Serial.{further-wrap}
 use Rattle.connection.specs.Ends.{sent, granted, segmentEnd, rightEdge}
-use Rattle.connection.specs.Ranges.{sequenceMet, ackMet, ackRange}
-use Rattle.history.specs.Numbers.{Numbers, onRing, widest, boundsI-II, boundsIII-IV, sentTo, grantedTo, Spans}
+use Rattle.connection.specs.Ranges.{sequenceMet, ackRange, ackMet, widest}
+use Rattle.history.specs.Numbers.{Numbers, onRing, boundsI-II, boundsIII-IV, sentTo, grantedTo, Spans}
 use Rattle.history.specs.History.{LineSegment, onWire}
 
 -- S lies within half a turn of E
@@ -31,8 +30,10 @@ module _ (F T : Numbers) (f : Spans F) (t : Spans T) (p : LineSegment) where
   unfolding sequenceMet
   sequence-line near =
       leb≡both _ _ _ _ _ _
-      (range-unwrap (F .end) (F .edge) (T .win) (p .start) (p .length) (omega (arith, t .win-most)) (f .ordered) (omega (arith, f .near)) (near .low) (near .high))
-      (range-wrap (F .end) (F .edge) (T .win) (p .start) (p .length) (omega (arith, t .win-most)) (omega (arith, f .near)))
+      (λ met.
+      let b = range-unwrap (F .end) (F .edge) (T .win) (p .start) (p .length) (omega (arith, t .win-most)) (f .ordered) (omega (arith, f .near)) (near .low) (near .high) met in
+      (b .1, b .0))
+      (λ high low. range-wrap (F .end) (F .edge) (T .win) (p .start) (p .length) (omega (arith, t .win-most)) (omega (arith, f .near)) low high)
 
   pub sent-line : F .end ≤ p .start + T .win → p .start + p .length ≤ F .edge → sent (onRing F) (onWire p) ≡ onRing (sentTo F (p .start + p .length) (p .window))
   unfolding sent
@@ -46,7 +47,7 @@ module _ (F T : Numbers) (f : Spans F) (t : Spans T) (p : LineSegment) where
 -- The other end T
 
 module _ (T : Numbers) (t : Spans T) (p : LineSegment) where
-  pub ack-line : Near (T .end) (p .acked) → ackMet (onRing T) (onWire p) ≡ boundsIII-IV T (p .acked)
+  pub ack-line : Near (T .end) (p .acked) → ackMet ackRange (onRing T) (onWire p) ≡ boundsIII-IV ackRange T (p .acked)
   unfolding ackMet
   ack-line near =
       leb≡both _ _ _ _ _ _

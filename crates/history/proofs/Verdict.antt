@@ -1,26 +1,23 @@
 -- The decision over a connection is the judgement over the history that it holds.
-use Prim.Native.Nat.{ℕ, zero, suc, _+_, _-_, _^_, _<_, _≤_, max}
+use Prim.Native.Nat.{ℕ, zero, suc, _+_, _-_, _<_, _≤_}
 use mathlib.Core.Path.{_≡_, refl, sym, ap, _∙_}
 use mathlib.Core.Bool.{Bool, true, false, _&&_, _||_, not}
 use mathlib.Core.List.{List, [], _∷_}
 use native.Mathlib.Omega.{arith}
-use lib.Dec.{leb, eqb}
-use borrow.Author.Tests.{eqb-true, eqb-false}
-use Rattle.choice.specs.Choice.{if_then_else_, _≤ᵇ_, _=ᵇ_, _≠ᵇ_}
-use Rattle.choice.proofs.Choice.{if-true, if-false, if-=, if-=-not, if-≠, if-≠-not}
+use lib.Dec.{eqb}
+use borrow.Author.Tests.{eqb-true}
+use Rattle.choice.specs.Choice.{_=ᵇ_}
+use Rattle.choice.proofs.Choice.{if-=, if-=-not}
 use Rattle.serial.specs.Ring.{wrap, ringMinus}
 use Rattle.serial.proofs.Ring.{wrap-injective, wrap-back}
-use Rattle.segment.specs.Flags.{rst, ack, SYN, SYN+ACK, ACK+RST}
-use Rattle.segment.specs.declared.Segment.{Segment}
+use Rattle.segment.specs.Flags.{ack, SYN, SYN+ACK, ACK+RST}
 use Rattle.connection.specs.Ends.{sender, other}
-use Rattle.connection.specs.Ranges.{sequenceMet, ackMet}
-use Rattle.connection.specs.Decision.{verdictUnanswered, verdictByRanges, verdictOn}
+use Rattle.connection.specs.Ranges.{sequenceMet, ackRange, ackMet}
+use Rattle.connection.specs.Decision.{sameSyn, reply, verdictUnanswered, verdictByRanges, verdictOn}
 use Rattle.connection.specs.declared.Connection.{Connection}
 use Rattle.connection.specs.declared.End.{End}
-use Rattle.connection.specs.declared.Verdict.{Verdict}
-use Rattle.connection.specs.declared.Verdict.the-variants.{Pass, NotAllowed, SequenceMissed, AckMissed}
-use Rattle.history.specs.Numbers.{Numbers, onRing, boundsI-II, boundsIII-IV, Spans}
-use Rattle.history.specs.History.{LineSegment, numbersOf, stageOf, finsOf, onWire, judgeUnanswered, judge, Holds}
+use Rattle.history.specs.Numbers.{onRing, boundsI-II, boundsIII-IV, Spans}
+use Rattle.history.specs.History.{LineSegment, numbersOf, stageOf, finsOf, onWire, sameSynOnLine, replyOnLine, judgeUnanswered, judge, Holds}
 use Rattle.choice.proofs.Tests.{eqb≡eqb}
 use Rattle.history.proofs.Step.{Near, sequence-line, ack-line}
 
@@ -77,10 +74,10 @@ module _ (c : Connection) (h : List LineSegment) (holds : Holds c h) (p : LineSe
         rw (holds .ends, two-sender (λ k. onRing (numbersOf k h)) (p .from) side, two-other (λ k. onRing (numbersOf k h)) (p .from) side)
         (sequence-line (numbersOf (p .from) h) (numbersOf (1 - p .from) h) F T p start)
 
-    ack-judged : ((ack (p .flags) =ᵇ 1) && not (ackMet (other (c .ends) (p .from)) (onWire p))) ≡ ((ack (p .flags) =ᵇ 1) && not (boundsIII-IV (numbersOf (1 - p .from) h) (p .acked)))
+    ack-judged : ((ack (p .flags) =ᵇ 1) && not (ackMet ackRange (other (c .ends) (p .from)) (onWire p))) ≡ ((ack (p .flags) =ᵇ 1) && not (boundsIII-IV ackRange (numbersOf (1 - p .from) h) (p .acked)))
     ack-judged = by-ack (eqb (ack (p .flags)) 1) refl
       where
-        by-ack : (t : Bool) → eqb (ack (p .flags)) 1 ≡ t → (t && not (ackMet (other (c .ends) (p .from)) (onWire p))) ≡ (t && not (boundsIII-IV (numbersOf (1 - p .from) h) (p .acked)))
+        by-ack : (t : Bool) → eqb (ack (p .flags)) 1 ≡ t → (t && not (ackMet ackRange (other (c .ends) (p .from)) (onWire p))) ≡ (t && not (boundsIII-IV ackRange (numbersOf (1 - p .from) h) (p .acked)))
         by-ack true e =
             rw (holds .ends, two-other (λ k. onRing (numbersOf k h)) (p .from) side)
             (ap not (ack-line (numbersOf (1 - p .from) h) T p (acked (eqb-true _ _ e))))
@@ -107,15 +104,28 @@ module _ (c : Connection) (h : List LineSegment) (holds : Holds c h) (p : LineSe
     acks-syn : p .from ≡ 1 → eqb (wrap (p .acked)) (wrap (numbersOf 0 h .end)) ≡ eqb (p .acked) (numbersOf 0 h .end)
     acks-syn answerer = same-place (numbersOf 0 h .end) (p .acked) (numbersOf 0 h .end) (acked answerer) record { low = omega arith; high = omega arith }
 
+    same-syn : sameSyn c (p .from) (onWire p) ≡ sameSynOnLine h p
+    unfolding sameSyn sameSynOnLine
+    same-syn = by-opener (eqb (p .from) 0) refl
+      where
+        by-opener : (t : Bool) → eqb (p .from) 0 ≡ t → (t && ((p .flags =ᵇ SYN) && (wrap (p .start) =ᵇ ringMinus (sender (c .ends) 0 .end .0) 1))) ≡ (t && ((p .flags =ᵇ SYN) && (p .start + 1 =ᵇ numbersOf 0 h .end)))
+        by-opener true e = rw (holds .ends, syn-again (eqb-true _ _ e))
+        by-opener false e = refl
+
+    same-reply : reply c (p .from) (onWire p) ≡ replyOnLine h p
+    unfolding reply replyOnLine
+    same-reply = by-answerer (eqb (p .from) 1) refl
+      where
+        flags : Bool
+        flags = (p .flags =ᵇ SYN+ACK) || (p .flags =ᵇ ACK+RST)
+
+        by-answerer : (t : Bool) → eqb (p .from) 1 ≡ t → (t && ((wrap (p .acked) =ᵇ sender (c .ends) 0 .end .0) && flags)) ≡ (t && ((p .acked =ᵇ numbersOf 0 h .end) && flags))
+        by-answerer true e = rw (holds .ends, acks-syn (eqb-true _ _ e))
+        by-answerer false e = refl
+
     three-segments : verdictUnanswered c (p .from) (onWire p) ≡ judgeUnanswered h p
     unfolding verdictUnanswered judgeUnanswered
-    three-segments = by-sender (eqb (p .from) 0) refl
-      where
-        by-sender : (t : Bool) → eqb (p .from) 0 ≡ t → verdictUnanswered c (p .from) (onWire p) ≡ judgeUnanswered h p
-        by-sender true e = if-true _ _ _ e ∙ rw (holds .ends, syn-again (eqb-true _ _ e)) (sym (if-true _ _ _ e))
-        by-sender false e =
-            let answerer : p .from ≡ 1 = omega (arith, eqb-false (p .from) 0 e) in
-            if-false _ _ _ e ∙ rw (holds .ends, acks-syn answerer) (sym (if-false _ _ _ e))
+    three-segments = rw (same-syn, same-reply)
 
     pub judged-unanswered : verdictOn c (p .from) (onWire p) ≡ judge h p
     unfolding verdictOn judge

@@ -3,16 +3,18 @@ use Prim.Native.Nat.{ℕ, _+_, _-_, _^_, _<_, _≤_, max}
 use mathlib.Core.Path.{_≡_}
 use mathlib.Core.Bool.{Bool, _&&_, _||_, not}
 use mathlib.Core.List.{List, [], _∷_}
-use Rattle.choice.specs.Choice.{if_then_else_, _≤ᵇ_, _=ᵇ_, _≠ᵇ_}
-use Rattle.serial.specs.Ring.{wrap, nearest}
-use Rattle.segment.specs.Flags.{fin, syn, rst, ack, SYN, SYN+ACK, ACK+RST}
+use Rattle.choice.specs.Choice.{if_then_else_, _=ᵇ_, _≠ᵇ_}
+use Rattle.serial.specs.Ring.{nearest}
+use Rattle.serial.specs.Serial.{seqAt}
+use Rattle.segment.specs.Flags.{syn, rst, ack, SYN, SYN+ACK, ACK+RST}
 use Rattle.segment.specs.declared.Segment.{Segment}
-use Rattle.connection.specs.Ends.{octets, place, effectiveWindow}
+use Rattle.connection.specs.Ends.{count, effectiveWindow}
+use Rattle.connection.specs.Ranges.{ackRange, widest}
 use Rattle.connection.specs.Stages.{finsAfter, stageAfter}
 use Rattle.connection.specs.declared.Connection.{Connection}
 use Rattle.connection.specs.declared.Verdict.{Verdict}
 use Rattle.connection.specs.declared.Verdict.the-variants.{Pass, NotAllowed, SequenceMissed, AckMissed}
-use Rattle.history.specs.Numbers.{Numbers, onRing, widest, boundsI-II, boundsIII-IV}
+use Rattle.history.specs.Numbers.{Numbers, onRing, boundsI-II, boundsIII-IV}
 
 -- a segment whose numbers are places on the line; from is 0 for the opener, 1 for the answerer
 pub record LineSegment : Type 0 where
@@ -23,13 +25,18 @@ pub record LineSegment : Type 0 where
   pub acked : ℕ
   pub window : ℕ
 
+-- the segment as the wire has it
+abbrev pub onWire : LineSegment → Segment
+onWire g = record { seq = seqAt (g .start); ack = seqAt (g .acked); window = count (g .window); flags = g .flags; octets = count (g .length) }
+
 -- The six numbers: maxima over the history, in which a reset counts for nothing
 
 -- the end of i's segment
 abbrev pub endBy : ℕ → LineSegment → ℕ
 endBy i g = if (g .from =ᵇ i) && (rst (g .flags) ≠ᵇ 1) then g .start + g .length else 0
 
--- the right edge that i gets by it: a + max(w, 1) of the other end's, or, to begin with, the end of its own SYN
+-- the right edge that i gets by it: a + max(w, 1) of the other end's, or the end of its own SYN, with which it begins (a later
+-- SYN's end counts too, and bound I keeps it at or below the edge)
 abbrev pub edgeBy : ℕ → LineSegment → ℕ
 edgeBy i g =
     if rst (g .flags) =ᵇ 1 then 0
@@ -51,13 +58,9 @@ numbersOf i (g ∷ h) = record {
 
 -- FIN bits and stage, by the rules under "Stages"
 
--- the segment as the wire has it
-abbrev pub onWire : LineSegment → Segment
-onWire g = record { seq = place (wrap (g .start)); ack = place (wrap (g .acked)); window = octets (g .window); flags = g .flags; octets = octets (g .length) }
-
 unfoldable pub finsOf : List LineSegment → ℕ
 finsOf [] = 0
-finsOf (g ∷ h) = if rst (g .flags) =ᵇ 1 then finsOf h else finsAfter (finsOf h) (g .from) (onWire g)
+finsOf (g ∷ h) = if rst (g .flags) =ᵇ 1 then finsOf h else finsAfter (finsOf h) (g .from) (g .flags)
 
 -- 0 before the opening and once a reset has passed
 unfoldable pub stageOf : List LineSegment → ℕ
@@ -65,14 +68,14 @@ stageOf [] = 0
 stageOf (g ∷ h) =
     if rst (g .flags) =ᵇ 1 then 0
     else if stageOf h =ᵇ 0 then 1
-    else if stageOf h ≠ᵇ 1 then stageAfter (stageOf h) (finsOf (g ∷ h)) (g .from) (onWire g)
+    else if stageOf h ≠ᵇ 1 then stageAfter (stageOf h) (finsOf (g ∷ h)) (g .from) (g .flags)
     else if g .from =ᵇ 0 then 1
     else 2
 
 -- The next segment
 
--- where a sequence number stands beside an end at E: at the whole number nearest. The first of a line may stand anywhere; a
--- turn up, nothing on the line ever falls below zero
+-- where a sequence number stands beside an end at E: at the whole number nearest. 0: nothing of this end has passed; a real end
+-- is 2^32 + 1 or more. The first of a line may stand anywhere; a turn up, nothing on the line ever falls below zero
 abbrev pub standsBy : ℕ → ℕ → ℕ
 standsBy E s = if E =ᵇ 0 then s + 2 ^ 32 else nearest E s
 
@@ -90,23 +93,24 @@ placedBy E E' i g = record {
 abbrev pub placed : List LineSegment → ℕ → Segment → LineSegment
 placed h i g = placedBy (numbersOf i h .end) (numbersOf (1 - i) h .end) i g
 
+-- the same SYN again: the opener's, no ACK, s = opener end − 1
+unfoldable pub sameSynOnLine : List LineSegment → LineSegment → Bool
+sameSynOnLine h p = (p .from =ᵇ 0) && ((p .flags =ᵇ SYN) && (p .start + 1 =ᵇ numbersOf 0 h .end))
+
+-- from the answerer, with a = opener end, either SYN+ACK or ACK+RST without FIN
+unfoldable pub replyOnLine : List LineSegment → LineSegment → Bool
+replyOnLine h p = (p .from =ᵇ 1) && ((p .acked =ᵇ numbersOf 0 h .end) && ((p .flags =ᵇ SYN+ACK) || (p .flags =ᵇ ACK+RST)))
+
 -- stage 1's three segments, on the line
 unfoldable pub judgeUnanswered : List LineSegment → LineSegment → Verdict
-judgeUnanswered h p =
-    if p .from =ᵇ 0 then
-    (if p .flags ≠ᵇ SYN then NotAllowed
-    else if p .start + 1 ≠ᵇ numbersOf 0 h .end then NotAllowed
-    else Pass)
-    else if p .acked ≠ᵇ numbersOf 0 h .end then NotAllowed
-    else if (p .flags =ᵇ SYN+ACK) || (p .flags =ᵇ ACK+RST) then Pass
-    else NotAllowed
+judgeUnanswered h p = if sameSynOnLine h p || replyOnLine h p then Pass else NotAllowed
 
--- what bounds I to IV give over the history's numbers
+-- in stage 1 only the three segments pass; from stage 2 on, what bounds I to IV give over the history's numbers
 unfoldable pub judge : List LineSegment → LineSegment → Verdict
 judge h p =
     if stageOf h =ᵇ 1 then judgeUnanswered h p
     else if not (boundsI-II (numbersOf (p .from) h) (numbersOf (1 - p .from) h) (p .start) (p .length)) then SequenceMissed
-    else if (ack (p .flags) =ᵇ 1) && not (boundsIII-IV (numbersOf (1 - p .from) h) (p .acked)) then AckMissed
+    else if (ack (p .flags) =ᵇ 1) && not (boundsIII-IV ackRange (numbersOf (1 - p .from) h) (p .acked)) then AckMissed
     else Pass
 
 -- The connection holds exactly those numbers modulo 2^32, and the FIN bits and stage of the history

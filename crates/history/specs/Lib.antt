@@ -1,3 +1,4 @@
 pub mod Numbers
 pub mod History
-pub mod Follows
+pub mod Demand2
+pub mod Records

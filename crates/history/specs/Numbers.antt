@@ -2,9 +2,9 @@
 use Prim.Native.Nat.{ℕ, _+_, _≤_, max}
 use mathlib.Core.Bool.{Bool, _&&_}
 use Rattle.choice.specs.Choice.{_≤ᵇ_}
-use Rattle.serial.specs.Ring.{wrap}
-use Rattle.connection.specs.Ends.{octets, place}
-use Rattle.connection.specs.Ranges.{ackRange}
+use Rattle.serial.specs.Serial.{seqAt}
+use Rattle.connection.specs.Ends.{count}
+use Rattle.connection.specs.Ranges.{widest}
 use Rattle.connection.specs.declared.End.{End}
 
 -- highest sequence end, highest right edge, largest window
@@ -15,19 +15,15 @@ pub record Numbers : Type 0 where
 
 -- the record that holds them modulo 2^32
 abbrev pub onRing : Numbers → End
-onRing x = record { end = place (wrap (x .end)); edge = place (wrap (x .edge)); win = octets (x .win) }
-
--- the largest window
-abbrev pub widest : ℕ
-widest = 65535
+onRing x = record { end = seqAt (x .end); edge = seqAt (x .edge); win = count (x .win) }
 
 -- I and II, for n octets of sender F from S on: S + n ≤ F's edge, and F's end ≤ S + T's window
 abbrev pub boundsI-II : Numbers → Numbers → ℕ → ℕ → Bool
-boundsI-II F T S n = (F .end ≤ᵇ S + T .win) && (S + n ≤ᵇ F .edge)
+boundsI-II F T S n = (S + n ≤ᵇ F .edge) && (F .end ≤ᵇ S + T .win)
 
--- III and IV, for an acknowledgement of A: A ≤ T's end, and T's end ≤ A + 66,000
-abbrev pub boundsIII-IV : Numbers → ℕ → Bool
-boundsIII-IV T A = (A ≤ᵇ T .end) && (T .end ≤ᵇ A + ackRange)
+-- III and IV, for an acknowledgement of A: A ≤ T's end, and T's end ≤ A + range
+abbrev pub boundsIII-IV : ℕ → Numbers → ℕ → Bool
+boundsIII-IV range T A = (A ≤ᵇ T .end) && (T .end ≤ᵇ A + range)
 
 -- what a pass makes of the sender's numbers
 abbrev pub sentTo : Numbers → ℕ → ℕ → Numbers

@@ -11,11 +11,11 @@ use Rattle.choice.specs.Choice.{if_then_else_, _=ᵇ_, _≠ᵇ_, _≤ᵇ_}
 use Rattle.choice.proofs.Choice.{if-true, if-false, if-either, if-=, if-=-not}
 use Rattle.choice.proofs.Tests.{false-true}
 use Rattle.segment.specs.Flags.{syn, rst, ack, SYN, SYN+ACK}
-use Rattle.connection.specs.Ranges.{ackRange}
+use Rattle.connection.specs.Ranges.{ackRange, widest}
 use Rattle.connection.specs.declared.Verdict.{Verdict}
 use Rattle.connection.specs.declared.Verdict.the-variants.{Pass, SequenceMissed, AckMissed}
-use Rattle.history.specs.Numbers.{Numbers, widest, boundsI-II, boundsIII-IV, Spans}
-use Rattle.history.specs.History.{LineSegment, numbersOf, stageOf, judge, judgeUnanswered, Formed}
+use Rattle.history.specs.Numbers.{Numbers, boundsI-II, boundsIII-IV, Spans}
+use Rattle.history.specs.History.{LineSegment, numbersOf, stageOf, judge, sameSynOnLine, replyOnLine, judgeUnanswered, Formed}
 use Rattle.history.proofs.Verdict.{Unanswered, Answered, spans}
 use Rattle.honest.specs.Filter.{Keys}
 use Rattle.honest.specs.Honest.{Event, Pair, receivedBy, highest, ackOf, endOf, answered, FirstSegment}
@@ -87,13 +87,13 @@ module _ {K : Keys} {Call : Type 0} (P : Pair K) (h : List LineSegment) (Arrived
       unfolding judge
       judged-pass =
           let later : stageOf h ≡ 1 → ⊥ = λ (e : stageOf h ≡ 1). omega (arith, both-heard .stage) in
-          let in-range : boundsI-II (numbersOf (p .from) h) (numbersOf (1 - p .from) h) (p .start) (p .length) ≡ true = rw (le-leb _ _ bound-II, le-leb _ _ bound-I) in
+          let in-range : boundsI-II (numbersOf (p .from) h) (numbersOf (1 - p .from) h) (p .start) (p .length) ≡ true = rw (le-leb _ _ bound-I, le-leb _ _ bound-II) in
           if-=-not _ _ later ∙ if-false _ _ _ (rw in-range) ∙ by-ack (eqb (ack (p .flags)) 1) refl
         where
-          by-ack : (t : Bool) → eqb (ack (p .flags)) 1 ≡ t → (if (ack (p .flags) =ᵇ 1) && not (boundsIII-IV (numbersOf (1 - p .from) h) (p .acked)) then AckMissed else Pass) ≡ Pass
+          by-ack : (t : Bool) → eqb (ack (p .flags)) 1 ≡ t → (if (ack (p .flags) =ᵇ 1) && not (boundsIII-IV ackRange (numbersOf (1 - p .from) h) (p .acked)) then AckMissed else Pass) ≡ Pass
           by-ack true e =
               let acks = eqb-true (ack (p .flags)) 1 e in
-              let in-range : boundsIII-IV (numbersOf (1 - p .from) h) (p .acked) ≡ true = rw (le-leb _ _ (bound-III acks), le-leb _ _ (bound-IV acks)) in
+              let in-range : boundsIII-IV ackRange (numbersOf (1 - p .from) h) (p .acked) ≡ true = rw (le-leb _ _ (bound-III acks), le-leb _ _ (bound-IV acks)) in
               if-false _ _ _ (rw (e, in-range))
           by-ack false e = if-false _ _ _ (rw e)
 
@@ -152,7 +152,7 @@ module _ {K : Keys} {Call : Type 0} (P : Pair K) (h : List LineSegment) (Arrived
         omega arith
 
     pub judged-first : (k : ℕ) (p : LineSegment) (s : ℕ) → SentWith k p s L → judge h p ≡ Pass
-    unfolding judge judgeUnanswered
+    unfolding judge judgeUnanswered sameSynOnLine replyOnLine
     judged-first k p s sent = if-= _ _ (quiet .stage) ∙ by-end (eqb (p .from) 0) refl
       where
         f : Fact P h p s L
@@ -164,15 +164,21 @@ module _ {K : Keys} {Call : Type 0} (P : Pair K) (h : List LineSegment) (Arrived
         ff : FirstFacts P p
         ff = first-facts P p (f .formed) (x .rule)
 
+        allowed : sameSynOnLine h p || replyOnLine h p ≡ true → judgeUnanswered h p ≡ Pass
+        allowed = if-true _ _ _
+
+        not-same : eqb (p .from) 0 ≡ false → sameSynOnLine h p ≡ false
+        not-same e = rw e
+
         by-end : (t : Bool) → eqb (p .from) 0 ≡ t → judgeUnanswered h p ≡ Pass
         by-end true e =
             let opener = eqb-true (p .from) 0 e in
             let begins : P .start (p .from) ≡ P .start 0 = ap (P .start) opener in
-            if-true _ _ _ e
-            ∙ if-false _ _ _ (rw (eq-eqb (p .flags) SYN (ff .opener opener)))
-            ∙ if-false _ _ _ (rw (eq-eqb (p .start + 1) (numbersOf 0 h .end) (omega (arith, x .rule .start, opener-end))))
+            let start = eq-eqb (p .start + 1) (numbersOf 0 h .end) (omega (arith, x .rule .start, opener-end)) in
+            let same : sameSynOnLine h p ≡ true = rw (e, eq-eqb (p .flags) SYN (ff .opener opener), start) in
+            allowed (rw same)
         by-end false e =
             let answerer : p .from ≡ 1 = omega (arith, eqb-false (p .from) 0 e, f .end-known) in
-            if-false _ _ _ e
-            ∙ if-false _ _ _ (rw (eq-eqb (p .acked) (numbersOf 0 h .end) (x .rule .acks answerer ∙ sym opener-end)))
-            ∙ if-true _ _ _ (rw (eq-eqb (p .flags) SYN+ACK (ff .answerer answerer)))
+            let acked = eq-eqb (p .acked) (numbersOf 0 h .end) (x .rule .acks answerer ∙ sym opener-end) in
+            let is-reply : replyOnLine h p ≡ true = rw (eq-eqb (p .from) 1 answerer, acked, eq-eqb (p .flags) SYN+ACK (ff .answerer answerer)) in
+            allowed (rw (not-same e, is-reply))

@@ -8,13 +8,8 @@ use borrow.Author.Tests.{ltb-true, ltb-false}
 use Rattle.choice.specs.Choice.{if_then_else_}
 use Rattle.choice.proofs.Choice.{if-true, if-false}
 use Rattle.serial.specs.Ring.{wrap, standing}
-use Rattle.serial.specs.Serial.{further}
-use Rattle.serial.specs.declared.SeqNum.{SeqNum}
+use Rattle.serial.specs.Serial.{seqAt, further}
 use Rattle.serial.proofs.Ring.{standing-wrap}
-
--- the sequence number of a place on the line
-abbrev pub seqAt : ℕ → SeqNum
-seqAt X = record { 0 = wrap X }
 
 -- the choice by where two places stand
 by-standing : (B X Y x y : ℕ) (t : Bool) → ltb x y ≡ t → x ≡ X + 2 ^ 31 - B → y ≡ Y + 2 ^ 31 - B → B ≤ X + 2 ^ 31 → B ≤ Y + 2 ^ 31 → (if t then seqAt Y else seqAt X) ≡ seqAt (max X Y)

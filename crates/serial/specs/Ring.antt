@@ -1,5 +1,5 @@
 -- The ring of 2^32 and the unwrapped line (document 01, "Ranges"). Places on the line are whole numbers; a sequence number
--- is such a place modulo 2^32. Nothing else in this repository reckons modulo 2^32.
+-- is such a place modulo 2^32. No other crate reckons with sequence numbers modulo 2^32.
 use Prim.Native.Nat.{ℕ, _+_, _-_, _*_, _%_, _^_}
 
 -- the sequence number of a place on the line

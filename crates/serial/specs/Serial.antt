@@ -1,10 +1,18 @@
 -- What the operations on sequence numbers and octet counts give.
 use Prim.Native.Nat.{ℕ, _+_, max}
 use mathlib.Core.Bool.{Bool}
-use Rattle.choice.specs.Choice.{if_then_else_, _<ᵇ_, _≤ᵇ_}
-use Rattle.serial.specs.Ring.{ringPlus, ringMinus, standing}
+use Rattle.choice.specs.Choice.{if_then_else_, _<ᵇ_, _≤ᵇ_, _=ᵇ_}
+use Rattle.serial.specs.Ring.{wrap, ringPlus, ringMinus, standing}
 use Rattle.serial.specs.declared.SeqNum.{SeqNum}
 use Rattle.serial.specs.declared.OctetCount.{OctetCount}
+
+-- the sequence number of a place on the line
+abbrev pub seqAt : ℕ → SeqNum
+seqAt X = record { 0 = wrap X }
+
+-- one and the same place on the ring
+abbrev pub sameSeq : SeqNum → SeqNum → Bool
+sameSeq a b = a .0 =ᵇ b .0
 
 -- place plus count
 abbrev pub seqPlus : SeqNum → OctetCount → SeqNum
@@ -25,6 +33,10 @@ further base a b = if standing (base .0) (a .0) <ᵇ standing (base .0) (b .0) t
 -- the larger count
 abbrev pub larger : OctetCount → OctetCount → OctetCount
 larger m n = record { 0 = max (m .0) (n .0) }
+
+-- d ≤ limit
+abbrev pub atMost : OctetCount → OctetCount → Bool
+atMost d limit = d .0 ≤ᵇ limit .0
 
 -- d + n ≤ limit, summed as whole numbers
 abbrev pub within : OctetCount → OctetCount → OctetCount → Bool

@@ -2,7 +2,7 @@
 // adds two places.
 ghost use mathlib.Core.Path.{_≡_};
 ghost use Rattle.serial.specs.Ring.{standing};
-ghost use Rattle.serial.specs.Serial.{seqPlus, seqBack, seqMinus, further, larger, within};
+ghost use Rattle.serial.specs.Serial.{sameSeq, seqPlus, seqBack, seqMinus, further, larger, atMost, within};
 use std::num::wrapping_add_u32;
 use std::num::wrapping_sub_u32;
 
@@ -13,6 +13,13 @@ pub struct SeqNum(pub u32);
 pub struct OctetCount(pub u32);
 
 impl SeqNum {
+    // Whether this is that place.
+    pub fn is(self, other: SeqNum) -> bool
+        ensures { λ r. ⌜ r ≡ sameSeq self other ⌝ }
+    {
+        self.0 == other.0
+    }
+
     pub fn plus(self, n: OctetCount) -> SeqNum
         ensures { λ r. ⌜ r ≡ seqPlus self n ⌝ }
     {
@@ -61,6 +68,12 @@ impl OctetCount {
             return other;
         }
         self
+    }
+
+    pub fn at_most(self, limit: OctetCount) -> bool
+        ensures { λ r. ⌜ r ≡ atMost self limit ⌝ }
+    {
+        self.0 <= limit.0
     }
 
     // Whether this count and n more, summed as whole numbers, are at most limit.

@@ -1,11 +1,5 @@
 -- Field by field; the opener's record is the one read.
-use Prim.Native.Nat.{_+_}
-use mathlib.Core.Path.{ap, _∙_}
-use mathlib.Core.List.{[], _∷_}
-use native.Mathlib.Omega.{arith}
-use Rattle.connection.specs.Ends.{granted}
 use Rattle.connection.specs.Decision.{answered}
-use Rattle.connection.specs.declared.End.{End}
 use borrow.Author.Needs.{needs}
 use Rattle.connection.proofs.Connection.answered.Statement.{statement}
 use Rattle.connection.proofs.Connection.answered.Tie as tie

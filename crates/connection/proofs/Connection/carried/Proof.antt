@@ -28,7 +28,7 @@ returns c =
     let k = m .before in
     let a = k .before .before .args in
     let fins = k .before .fins-after .ensures in
-    let stage = k .stage-after .ensures ∙ ap (λ (f : ℕ). stageAfter (a .self .stage) f (a .sender) (a .segment)) fins in
+    let stage = k .stage-after .ensures ∙ ap (λ (f : ℕ). stageAfter (a .self .stage) f (a .sender) (a .segment .flags)) fins in
     let life = m .life .ensures .0 ∙ ap lifeOf stage in
     λ i. record {
       stage = stage i;

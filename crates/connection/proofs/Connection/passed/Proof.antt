@@ -12,6 +12,12 @@ returns : tie.Need-returns
 unfolding passed
 returns c = c .no-connection .ensures ∙ sym (if-= _ _ (c .before .if1 .taken))
 
+repeated-requires : tie.Need-repeated-requires
+repeated-requires c κs = search needs
+
+answered-requires : tie.Need-answered-requires
+answered-requires c κs = search needs
+
 carried-requires : tie.Need-carried-requires
 carried-requires c κs = search needs
 
@@ -19,27 +25,21 @@ returns-2 : tie.Need-returns-2
 unfolding passed
 returns-2 c =
     let k = c .before in
-    c .carried .ensures ∙ sym (if-=-not _ _ (k .before .if1 .left) ∙ if-≠ _ _ (k .if2 .taken))
-
-repeated-requires : tie.Need-repeated-requires
-repeated-requires c κs = search needs
+    let m = k .before in
+    c .repeated .ensures ∙ sym (if-=-not _ _ (m .before .if1 .left) ∙ if-≠-not _ _ (m .match .keys1) ∙ if-= _ _ (k .match2 .keys1))
 
 returns-3 : tie.Need-returns-3
 unfolding passed
 returns-3 c =
     let k = c .before in
     let m = k .before in
-    c .repeated .ensures ∙ sym (if-=-not _ _ (m .before .if1 .left) ∙ if-≠-not _ _ (m .if2 .left) ∙ if-= _ _ (k .if3 .taken))
-
-answered-requires : tie.Need-answered-requires
-answered-requires c κs = search needs
+    c .answered .ensures ∙ sym (if-=-not _ _ (m .before .if1 .left) ∙ if-≠-not _ _ (m .match .keys1) ∙ if-=-not _ _ (k .match2 .rest .1))
 
 returns-4 : tie.Need-returns-4
 unfolding passed
 returns-4 c =
     let k = c .before in
-    let m = k .before in
-    c .answered .ensures ∙ sym (if-=-not _ _ (m .before .if1 .left) ∙ if-≠-not _ _ (m .if2 .left) ∙ if-=-not _ _ (k .if3 .left))
+    c .carried .ensures ∙ sym (if-=-not _ _ (k .before .if1 .left) ∙ if-≠ _ _ (k .match .rest .1))
 
 pub passed-spec : {M : Type 1} → statement M
 passed-spec =
@@ -47,9 +47,9 @@ passed-spec =
     (tie.spec
     no-connection-requires
     returns
+    repeated-requires
+    answered-requires
     carried-requires
     returns-2
-    repeated-requires
     returns-3
-    answered-requires
     returns-4)

@@ -1,12 +1,8 @@
 -- A callee is asked about the records that were read, the definition about those of sender and other end.
-use Prim.Native.Nat.{_-_}
-use mathlib.Core.Path.{_≡_, sym, ap, _∙_}
+use mathlib.Core.Path.{sym, ap, _∙_}
 use mathlib.Core.Bool.{not}
-use native.Mathlib.Omega.{arith}
 use borrow.Author.Tests.{eq-eqb, ne-eqb}
 use Rattle.choice.proofs.Choice.{if-true, if-false}
-use Rattle.connection.specs.Ends.{sender, other}
-use Rattle.connection.specs.Ranges.{sequenceMet, ackMet}
 use Rattle.connection.specs.Decision.{verdictByRanges}
 use borrow.Author.Needs.{needs}
 use Rattle.connection.proofs.Connection.ranges.Statement.{statement}

@@ -1,11 +1,5 @@
 -- Field by field; the opener's record is the one read.
-use Prim.Native.Nat.{_+_}
-use mathlib.Core.Path.{ap, _∙_}
-use native.Mathlib.Omega.{arith}
-use lib.ListN.{set}
-use Rattle.serial.specs.Serial.{larger}
 use Rattle.connection.specs.Decision.{repeated}
-use Rattle.connection.specs.declared.End.{End}
 use borrow.Author.Needs.{needs}
 use Rattle.connection.proofs.Connection.repeated.Statement.{statement}
 use Rattle.connection.proofs.Connection.repeated.Tie as tie

@@ -8,16 +8,16 @@ use Rattle.connection.proofs.Connection.verdict.Tie as tie
 unanswered-requires : tie.Need-unanswered-requires
 unanswered-requires c κs = search needs
 
-returns : tie.Need-returns
-unfolding verdictOn
-returns c = c .unanswered .ensures ∙ sym (if-= _ _ (c .before .if1 .taken))
-
 ranges-requires : tie.Need-ranges-requires
 ranges-requires c κs = search needs
 
+returns : tie.Need-returns
+unfolding verdictOn
+returns c = c .unanswered .ensures ∙ sym (if-= _ _ (c .before .match .keys1))
+
 returns-2 : tie.Need-returns-2
 unfolding verdictOn
-returns-2 c = c .ranges .ensures ∙ sym (if-=-not _ _ (c .before .if1 .left))
+returns-2 c = c .ranges .ensures ∙ sym (if-=-not _ _ (c .before .match .rest .1))
 
 pub verdict-spec : {M : Type 1} → statement M
-verdict-spec = tie.close (tie.spec unanswered-requires returns ranges-requires returns-2)
+verdict-spec = tie.close (tie.spec unanswered-requires ranges-requires returns returns-2)

@@ -1,11 +1,9 @@
 -- Both records are read before either is stored.
 use Prim.Native.Nat.{_-_}
-use mathlib.Core.Path.{_≡_, sym, ap, _∙_}
-use native.Mathlib.Omega.{arith}
+use mathlib.Core.Path.{sym, ap, _∙_}
 use lib.ListN.{set}
 use Rattle.choice.proofs.Choice.{if-=, if-=-not}
 use Rattle.connection.specs.Ends.{sender, sent, granted, written}
-use Rattle.connection.specs.declared.End.{End}
 use borrow.Author.Needs.{needs}
 use Rattle.connection.proofs.Connection.written.Statement.{statement}
 use Rattle.connection.proofs.Connection.written.Tie as tie

@@ -1,0 +1,83 @@
+-- Demand 2 for one connection: after any segments presented to it, its numbers and its next answer are the history's.
+use Prim.Native.Nat.{ℕ, _<_}
+use mathlib.Core.Path.{_≡_}
+use mathlib.Core.Bool.{Bool}
+use mathlib.Core.List.{List, [], _∷_}
+use Rattle.choice.specs.Choice.{if_then_else_, _=ᵇ_}
+use Rattle.segment.specs.Flags.{rst, SYN}
+use Rattle.segment.specs.declared.Segment.{Segment}
+use Rattle.connection.specs.Decision.{verdictOn, verdictNumber, free, opened, passed}
+use Rattle.connection.specs.declared.Connection.{Connection}
+use Rattle.connection.specs.declared.Verdict.{Verdict}
+use Rattle.connection.specs.declared.Verdict.the-variants.{Pass}
+use Rattle.history.specs.History.{LineSegment, placed, judge, Holds, Readable}
+
+-- a segment presented to a connection: of its opener (0) or its answerer (1), at a clock used
+pub record Presented : Type 0 where
+  pub sender : ℕ
+  pub segment : Segment
+  pub now : ℕ
+
+pub record Legal (o : Presented) : Type 0 where
+  pub sender-known : o .sender < 2
+  pub readable : Readable (o .segment)
+
+-- each of a list is legal
+unfoldable pub AllLegal : List Presented → Type 0
+AllLegal [] = Unit {0}
+AllLegal (o ∷ l) = Legal o × AllLegal l
+
+-- its segment on the line, over a history
+abbrev pub onLine : List LineSegment → Presented → LineSegment
+onLine h o = placed h (o .sender) (o .segment)
+
+-- the connection's answer, and the history's
+abbrev pub answerTo : Connection → Presented → Verdict
+answerTo c o = verdictOn c (o .sender) (o .segment)
+
+abbrev pub judgedOver : List LineSegment → Presented → Verdict
+judgedOver h o = judge h (onLine h o)
+
+-- the connection that its pass leaves
+abbrev pub leftBy : Connection → Presented → Connection
+leftBy c o = passed c (o .sender) (o .segment) (o .now)
+
+-- document 01's answer 0
+abbrev pub passes : Verdict → Bool
+passes v = verdictNumber v =ᵇ 0
+
+-- After a list of presentations, the newest first: only a pass changes anything
+
+unfoldable pub connectionAfter : Connection → List Presented → Connection
+connectionAfter c [] = c
+connectionAfter c (o ∷ l) =
+    if passes (answerTo (connectionAfter c l) o) then leftBy (connectionAfter c l) o else connectionAfter c l
+
+-- a pass puts the segment on top
+unfoldable pub historyAfter : List LineSegment → List Presented → List LineSegment
+historyAfter h [] = h
+historyAfter h (o ∷ l) =
+    if passes (judgedOver (historyAfter h l) o) then onLine (historyAfter h l) o ∷ historyAfter h l else historyAfter h l
+
+-- none that passed was a reset
+unfoldable pub NoReset : List LineSegment → List Presented → Type 0
+NoReset h [] = Unit {0}
+NoReset h (o ∷ l) = NoReset h l × (judgedOver (historyAfter h l) o ≡ Pass → rst (o .segment .flags) ≡ 1 → ⊥)
+
+-- the history of an opening SYN alone
+abbrev pub openingHistory : Segment → List LineSegment
+openingHistory g = placed [] 0 g ∷ []
+
+-- a connection and a history agree: on the six numbers, FIN bits and stage, and on the answer to o; and a passed reset frees
+pub record Agree (c : Connection) (h : List LineSegment) (o : Presented) : Type 0 where
+  pub holds : Holds c h
+  pub answer : answerTo c o ≡ judgedOver h o
+  pub freed : answerTo c o ≡ Pass → rst (o .segment .flags) ≡ 1 → leftBy c o ≡ free
+
+-- from an opening SYN g on, after every list of legal presentations of which no reset passed, and at every next legal one
+abbrev pub Demand2 : Type 0
+Demand2 =
+    (side : ℕ) (g : Segment) (now : ℕ) → Readable g → g .flags ≡ SYN →
+    (l : List Presented) → AllLegal l → NoReset (openingHistory g) l →
+    (o : Presented) → Legal o →
+    Agree (connectionAfter (opened side g now) l) (historyAfter (openingHistory g) l) o
