@@ -31,29 +31,32 @@ bytesRead-legal l n out legal fits =
 -- The theorems
 
 -- what is written is read back
-pub read-written : (side clock : ℕ) (packet line out : List ℕ) → LegalValues side clock packet → 15 + 2 * length packet ≤ length line → length packet ≤ length out → ReadWritten side clock packet line (charactersWritten (15 + 2 * length packet) side clock packet line) out
+pub read-written : (side clock : ℕ) (packet line out : List ℕ) → LegalValues side clock packet → 15 + 2 * length packet ≤ length line → length packet ≤ length out → ReadWritten side clock packet line out
 read-written side clock packet line out legal room fits =
     let lined = lineOf-legal side clock packet legal in
-    rw (charactersWritten-legal side clock packet line legal room)
+    let stands = charactersWritten-legal side clock packet line legal room in
     record {
       written = writeLine-legal side clock packet (length line) legal room;
       frame =
-          rw (sideOf-lineOf side clock packet, clockOf-lineOf side clock packet (legal .clock-fits)) at
-          (readLine-legal (lineOf side clock packet) (length packet) (length out) lined fits);
-      bytes = bytesRead-legal (lineOf side clock packet) (length packet) out lined fits ∙ packetOf-lineOf side clock packet (legal .each);
+          rw stands
+          (rw (sideOf-lineOf side clock packet, clockOf-lineOf side clock packet (legal .clock-fits)) at
+          (readLine-legal (lineOf side clock packet) (length packet) (length out) lined fits));
+      bytes =
+          rw stands (bytesRead-legal (lineOf side clock packet) (length packet) out lined fits ∙ packetOf-lineOf side clock packet (legal .each));
     }
 
 -- what is read is written back
-pub write-read : (l : List ℕ) (n : ℕ) (out line : List ℕ) → LegalLine l n → n ≤ length out → length l ≤ length line → WriteRead l n out (bytesRead n l out) line
+pub write-read : (l : List ℕ) (n : ℕ) (out line : List ℕ) → LegalLine l n → n ≤ length out → length l ≤ length line → WriteRead l n out line
 write-read l n out line legal fits room =
     let said = legal-line-values l n legal in
     let size : 15 + 2 * length (packetOf l) ≡ length l = rw (length-packetOf l n legal) (sym (legal .whole)) in
-    rw (bytesRead-legal l n out legal fits)
+    let stands = bytesRead-legal l n out legal fits in
     record {
       frame = readLine-legal l n (length out) legal fits;
       written =
-          rw size at (writeLine-legal (sideOf l) (clockOf l) (packetOf l) (length line) said (rw size room));
+          rw stands (rw size at (writeLine-legal (sideOf l) (clockOf l) (packetOf l) (length line) said (rw size room)));
       characters =
-          rw size at (charactersWritten-legal (sideOf l) (clockOf l) (packetOf l) line said (rw size room))
-          ∙ lineOf-legal-line l n legal;
+          rw stands
+          (rw size at (charactersWritten-legal (sideOf l) (clockOf l) (packetOf l) line said (rw size room))
+          ∙ lineOf-legal-line l n legal);
     }

@@ -17,14 +17,14 @@ charactersWritten n side clock packet line = take n (lineAfter (writeLine side c
 abbrev pub bytesRead : ℕ → List ℕ → List ℕ → List ℕ
 bytesRead n l out = take n (packetAfter (readLine l (length out)) l out)
 
--- side, clock and packet are written to `line`, and the line l that then stands there is read to `out`: they are what is read
-pub record ReadWritten (side clock : ℕ) (packet line l out : List ℕ) : Type 0 where
+-- side, clock and packet are written to `line`, and the line that then stands there is read to `out`: they are what is read
+pub record ReadWritten (side clock : ℕ) (packet line out : List ℕ) : Type 0 where
   pub written : writeLine side clock (length packet) (length line) ≡ Written (15 + 2 * length packet)
-  pub frame : readLine l (length out) ≡ Frame side clock (length packet)
-  pub bytes : bytesRead (length packet) l out ≡ packet
+  pub frame : readLine (charactersWritten (15 + 2 * length packet) side clock packet line) (length out) ≡ Frame side clock (length packet)
+  pub bytes : bytesRead (length packet) (charactersWritten (15 + 2 * length packet) side clock packet line) out ≡ packet
 
 -- the line l is read to `out`, and the n packet bytes that then stand there are written to `line`: the line is what is written
-pub record WriteRead (l : List ℕ) (n : ℕ) (out packet line : List ℕ) : Type 0 where
+pub record WriteRead (l : List ℕ) (n : ℕ) (out line : List ℕ) : Type 0 where
   pub frame : readLine l (length out) ≡ Frame (sideOf l) (clockOf l) n
-  pub written : writeLine (sideOf l) (clockOf l) (length packet) (length line) ≡ Written (length l)
-  pub characters : charactersWritten (length l) (sideOf l) (clockOf l) packet line ≡ l
+  pub written : writeLine (sideOf l) (clockOf l) (length (bytesRead n l out)) (length line) ≡ Written (length l)
+  pub characters : charactersWritten (length l) (sideOf l) (clockOf l) (bytesRead n l out) line ≡ l
