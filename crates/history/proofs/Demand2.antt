@@ -168,13 +168,13 @@ module _ (side : ℕ) (g : Segment) (now : ℕ) (r : Readable g) (a-syn : g .fla
   formed-first : Formed (placed [] 0 g)
   formed-first = placed-formed (numbersOf 0 [] .end) (numbersOf 1 [] .end) 0 g r
 
-  holds-first : Holds (opened side g now) (openingHistory g)
+  pub holds-first : Holds (opened side g now) (openingHistory g)
   unfolding numbersOf
   holds-first =
       rw (onWire-placedBy (numbersOf 0 [] .end) (numbersOf 1 [] .end) 0 g r (inl refl) (inl refl)) at
       (opened-holds (placed [] 0 g) refl a-syn formed-first side now)
 
-  reached-first : Reached (openingHistory g)
+  pub reached-first : Reached (openingHistory g)
   unfolding numbersOf
   reached-first =
       let up : placed [] 0 g .start ≡ g .seq .0 + 2 ^ 32 = if-= {a = 0} {b = 0} _ _ refl in

@@ -22,7 +22,7 @@ use Rattle.history.specs.History.{LineSegment, numbersOf, onWire, stageOf, judg
 use Rattle.history.proofs.Step.{Near, start-near, ack-near}
 use Rattle.history.proofs.Verdict.{Unanswered, Answered, spans, judged-answered, judged-unanswered}
 use Rattle.history.proofs.Pass.{carried-holds, carried-answered, repeated-holds, repeated-unanswered, answered-holds, answered-answered, answerer-begins}
-use Rattle.honest.specs.Filter.{Keys}
+use Rattle.honest.specs.Keys.{Keys}
 use Rattle.honest.specs.Honest.{Event, Pair, endOf}
 use Rattle.honest.proofs.Sends.{SentWith, First, Fact, Protocol, Rises, rises-more, first-facts}
 use Rattle.honest.proofs.Bounds as Bounds

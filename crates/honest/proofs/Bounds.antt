@@ -17,7 +17,7 @@ use Rattle.connection.specs.declared.Verdict.the-variants.{Pass, SequenceMissed
 use Rattle.history.specs.Numbers.{Numbers, boundsI-II, boundsIII-IV, Spans}
 use Rattle.history.specs.History.{LineSegment, numbersOf, stageOf, judge, sameSynOnLine, replyOnLine, judgeUnanswered, Formed}
 use Rattle.history.proofs.Verdict.{Unanswered, Answered, spans}
-use Rattle.honest.specs.Filter.{Keys}
+use Rattle.honest.specs.Keys.{Keys}
 use Rattle.honest.specs.Honest.{Event, Pair, receivedBy, highest, ackOf, endOf, answered, FirstSegment}
 use Rattle.honest.proofs.Lists.{In, highest-up, highest-lub, endBy-mine, numbers-up, end-lub}
 use Rattle.honest.proofs.Sends.{SentWith, ackFrom, Later, First, Fact, Protocol, FirstFacts, first-facts, first-acks, answered-in, passed-sent}

@@ -20,7 +20,9 @@ use Rattle.connection.specs.declared.Verdict.the-variants.{Pass}
 use Rattle.history.specs.Numbers.{Numbers}
 use Rattle.history.specs.History.{LineSegment, numbersOf, onWire, stageOf, Holds, Formed}
 use Rattle.history.proofs.Pass.{opened-unanswered, opened-holds, opener-begins}
-use Rattle.honest.specs.Filter.{Keys, Entry, Table, Ask, Reply, freeEntry, SoundTable, clockUsed, search, senderOf, pass, entryAfter, byVerdict, matched, filter}
+use Rattle.honest.specs.Keys.{Keys}
+use Rattle.honest.specs.Rows.{Entry, Table, Ask, Reply, freeEntry, clockUsed, search, senderOf, pass, entryAfter, byVerdict, matched, filter}
+use Rattle.honest.specs.Filter.{connections, SoundTable}
 use Rattle.honest.specs.Machine.{Said, Reading, unreadable, asks, Machine, KeepsTo}
 use Rattle.honest.specs.Honest.{Label, opening, arrival, other, Event, send, call, delivery, Pair, sideOf, keyOf, Sent, receivedBy, answered, Honest, Told, clockIn, passes, nextClock, afterSegment, afterCall, told, said, Live, Is, Arrived, Passed, Arrives, Opening, Arrival, FairCall, Fair, Legal, NeverBlocked, Demand3}
 use Rattle.honest.proofs.Lists.{In}
@@ -68,9 +70,9 @@ module _ {K : Keys} (M : Machine K) (Sound : M .State → Type 0) (keeps : Keeps
     pub record Asked : Type 0 where
       pub ask : Ask K
       pub read : M .reads q ≡ asks ask
-      pub answer : filter K (M .view (t .state)) ask .answer ≡ 0
-      pub place : M .run (t .state) q .place ≡ filter K (M .view (t .state)) ask .place
-      pub table : M .view (M .run (t .state) q .next) ≡ filter K (M .view (t .state)) ask .table
+      pub answer : filter K connections (M .view (t .state)) ask .answer ≡ 0
+      pub place : M .run (t .state) q .place ≡ filter K connections (M .view (t .state)) ask .place
+      pub table : M .view (M .run (t .state) q .next) ≡ filter K connections (M .view (t .state)) ask .table
 
     asked : passes M s₀ P t q ≡ true → Asked
     asked e = by (M .reads q) refl
@@ -89,7 +91,7 @@ module _ {K : Keys} (M : Machine K) (Sound : M .State → Type 0) (keeps : Keeps
     clock-after : passes M s₀ P t q ≡ true → M .view (M .run (t .state) q .next) .clock ≡ max (M .view s₀ .clock) (nextClock M s₀ P t q)
     clock-after e =
         let x = asked e in
-        let used = ap (λ (b : Table K). b .clock) (x .table) ∙ pass-clock P (M .view (t .state)) (x .ask) (x .answer) in
+        let used = ap (λ (b : Table K connections). b .clock) (x .table) ∙ pass-clock P (M .view (t .state)) (x .ask) (x .answer) in
         let given = ap (clockIn M s₀ P) (x .read) in
         let next : nextClock M s₀ P t q ≡ max (clockIn M s₀ P (M .reads q)) (t .passClock) = if-true _ _ _ e in
         omega (arith, used, given, next, kept .clock)
@@ -106,7 +108,7 @@ module _ {K : Keys} (M : Machine K) (Sound : M .State → Type 0) (keeps : Keeps
     clocks-rise = if-either (λ n. t .passClock ≤ n) _ _ _ (omega arith) (omega arith)
 
     -- a connection that is live as told is live by its deadline
-    live-now : (c : Connection) → Alive t c → (a : Ask K) → M .reads q ≡ asks a → max (clockIn M s₀ P (M .reads q)) (t .passClock) < t .until → clockUsed K (M .view (t .state)) a < c .deadline
+    live-now : (c : Connection) → Alive t c → (a : Ask K) → M .reads q ≡ asks a → max (clockIn M s₀ P (M .reads q)) (t .passClock) < t .until → clockUsed K connections (M .view (t .state)) a < c .deadline
     live-now c al a read live =
         let given = ap (clockIn M s₀ P) read in
         omega (arith, kept .clock, al .told-early, al .first-early)
@@ -119,7 +121,7 @@ module _ {K : Keys} (M : Machine K) (Sound : M .State → Type 0) (keeps : Keeps
         ⊎-elim
         (λ (live : max (clockIn M s₀ P (M .reads q)) (t .passClock) < t .until).
         let x = asked e in
-        let elsewhere : filter K (M .view (t .state)) (x .ask) .place ≡ t .place → ⊥ = λ same. fair opened-t live e (x .place ∙ same) in
+        let elsewhere : filter K connections (M .view (t .state)) (x .ask) .place ≡ t .place → ⊥ = λ same. fair opened-t live e (x .place ∙ same) in
         let now = live-now c al (x .ask) (x .read) live in
         let r = pass-elsewhere P known (M .view (t .state)) (keeps .sound-table (t .state) (kept .sound)) (t .place) c (x .ask) (al .ours) (al .others) now (x .answer) elsewhere in
         alive opened-t c record {
@@ -145,20 +147,20 @@ module _ {K : Keys} (M : Machine K) (Sound : M .State → Type 0) (keeps : Keeps
     -- A call with a segment p of the pair's, that passes
 
     module _ (p : LineSegment) (a : Ask K) (read : M .reads q ≡ asks a) (brings : a .segment ≡ onWire p) (e : passes M s₀ P t q ≡ true) where
-      b : Table K
+      b : Table K connections
       b = M .view (t .state)
 
       sound-b : SoundTable K (M .view (t .state))
       sound-b = keeps .sound-table (t .state) (kept .sound)
 
       now : ℕ
-      now = clockUsed K (M .view (t .state)) a
+      now = clockUsed K connections (M .view (t .state)) a
 
-      answer-0 : filter K (M .view (t .state)) a .answer ≡ 0
+      answer-0 : filter K connections (M .view (t .state)) a .answer ≡ 0
       answer-0 = sym (keeps .answered (t .state) q a (kept .sound) read) ∙ passed-0 e
 
       -- what is told of the deadline is no later than the entry's
-      told-before : (place : ℕ) (c : Connection) → c .stage ≡ stageOf (p ∷ t .passed) → c .deadline ≡ clockUsed K (M .view (t .state)) a + lifeOf (c .stage) → afterSegment M s₀ P t q place p .until ≤ c .deadline
+      told-before : (place : ℕ) (c : Connection) → c .stage ≡ stageOf (p ∷ t .passed) → c .deadline ≡ clockUsed K connections (M .view (t .state)) a + lifeOf (c .stage) → afterSegment M s₀ P t q place p .until ≤ c .deadline
       told-before place c stage deadline =
           let given = ap (clockIn M s₀ P) read in
           let next : nextClock M s₀ P t q ≡ max (clockIn M s₀ P (M .reads q)) (t .passClock) = if-true _ _ _ e in
@@ -166,11 +168,11 @@ module _ {K : Keys} (M : Machine K) (Sound : M .State → Type 0) (keeps : Keeps
           let life = ap lifeOf stage in
           omega (arith, given, next, told-then, life, deadline, kept .clock)
 
-      first-before : (c : Connection) → c .deadline ≡ clockUsed K (M .view (t .state)) a + lifeOf (c .stage) → 1 ≤ lifeOf (c .stage) → M .view s₀ .clock < c .deadline
+      first-before : (c : Connection) → c .deadline ≡ clockUsed K connections (M .view (t .state)) a + lifeOf (c .stage) → 1 ≤ lifeOf (c .stage) → M .view s₀ .clock < c .deadline
       first-before c deadline life = omega (arith, kept .clock)
 
       -- the entry that it leaves, of a connection that holds the history with it on top
-      segment-kept : (place : ℕ) (c : Connection) → OurEntry P (M .view (M .run (t .state) q .next)) place c → OthersExpired P (M .view (M .run (t .state) q .next)) place → Holds c (p ∷ t .passed) → Heard P (p ∷ t .passed) → c .deadline ≡ clockUsed K (M .view (t .state)) a + lifeOf (c .stage) → 1 ≤ lifeOf (c .stage) → Table-kept (afterSegment M s₀ P t q place p)
+      segment-kept : (place : ℕ) (c : Connection) → OurEntry P (M .view (M .run (t .state) q .next)) place c → OthersExpired P (M .view (M .run (t .state) q .next)) place → Holds c (p ∷ t .passed) → Heard P (p ∷ t .passed) → c .deadline ≡ clockUsed K connections (M .view (t .state)) a + lifeOf (c .stage) → 1 ≤ lifeOf (c .stage) → Table-kept (afterSegment M s₀ P t q place p)
       segment-kept place c ours others holds heard deadline life =
           let more : (if passes M s₀ P t q then p ∷ t .passed else t .passed) ≡ p ∷ t .passed = if-true _ _ _ e in
           record {
@@ -187,12 +189,12 @@ module _ {K : Keys} (M : Machine K) (Sound : M .State → Type 0) (keeps : Keeps
           }
 
       -- the opening
-      pub opening-kept : AskOf P 0 a → p .from ≡ 0 → p .flags ≡ SYN → Formed p → p .start ≡ P .start 0 → t .passed ≡ [] → search K (M .view (t .state)) a ≡ length (M .view (t .state) .entries) → Table-kept (afterSegment M s₀ P t q (M .run (t .state) q .place) p)
+      pub opening-kept : AskOf P 0 a → p .from ≡ 0 → p .flags ≡ SYN → Formed p → p .start ≡ P .start 0 → t .passed ≡ [] → search K connections (M .view (t .state)) a ≡ length (M .view (t .state) .entries) → Table-kept (afterSegment M s₀ P t q (M .run (t .state) q .place) p)
       opening-kept asked-0 opener a-syn formed begins none unfound =
           let made = opening-made P known (M .view (t .state)) sound-b a asked-0 unfound answer-0 in
-          let c : Connection = opened (P .side) (a .segment) (clockUsed K (M .view (t .state)) a) in
-          let renewed = opened-renewed (P .side) (a .segment) (clockUsed K (M .view (t .state)) a) in
-          let holds : Holds (opened (P .side) (a .segment) (clockUsed K (M .view (t .state)) a)) (p ∷ t .passed) = rw (brings, none) (opened-holds p opener a-syn formed (P .side) (clockUsed K (M .view (t .state)) a)) in
+          let c : Connection = opened (P .side) (a .segment) (clockUsed K connections (M .view (t .state)) a) in
+          let renewed = opened-renewed (P .side) (a .segment) (clockUsed K connections (M .view (t .state)) a) in
+          let holds : Holds (opened (P .side) (a .segment) (clockUsed K connections (M .view (t .state)) a)) (p ∷ t .passed) = rw (brings, none) (opened-holds p opener a-syn formed (P .side) (clockUsed K connections (M .view (t .state)) a)) in
           let end = ap (λ (n : Numbers). n .end) (opener-begins p opener a-syn formed) in
           let heard : Heard P (p ∷ t .passed) = rw none (quiet (opened-unanswered p opener a-syn formed) (omega (arith, end, begins))) in
           let place = keeps .placed (t .state) q a (kept .sound) read in
@@ -202,23 +204,23 @@ module _ {K : Keys} (M : Machine K) (Sound : M .State → Type 0) (keeps : Keeps
     -- An arrival at the live entry
 
     module _ (k : ℕ) (p : LineSegment) (s : ℕ) (a : Ask K) (read : M .reads q ≡ asks a) (brings : a .segment ≡ onWire p) (asked-p : AskOf P (p .from) a) (no-reset : rst (p .flags) ≡ 1 → ⊥) (c : Connection) (al : Alive t c) (live : max (clockIn M s₀ P (M .reads q)) (t .passClock) < t .until) (verdict : verdictOn c (p .from) (onWire p) ≡ Pass) where
-      next-entry : Entry K
-      next-entry = record { key = P .key; connection = passed c (p .from) (onWire p) (clockUsed K (M .view (t .state)) a) }
+      next-entry : Entry K connections
+      next-entry = record { key = P .key; connection = passed c (p .from) (onWire p) (clockUsed K connections (M .view (t .state)) a) }
 
-      filter-passes : filter K (M .view (t .state)) a ≡ pass K (M .view (t .state)) a (t .place) (record { key = P .key; connection = passed c (p .from) (onWire p) (clockUsed K (M .view (t .state)) a) })
+      filter-passes : filter K connections (M .view (t .state)) a ≡ pass K connections (M .view (t .state)) a (t .place) (record { key = P .key; connection = passed c (p .from) (onWire p) (clockUsed K connections (M .view (t .state)) a) })
       unfolding matched
       filter-passes =
           let found = arrival-found P known (M .view (t .state)) (keeps .sound-table (t .state) (kept .sound)) (t .place) (p .from) c a (al .ours) (al .others) asked-p (live-now c al a read live) in
-          let after : entryAfter K (record { key = P .key; connection = c }) (p .from) (onWire p) (clockUsed K (M .view (t .state)) a) ≡ record { key = P .key; connection = passed c (p .from) (onWire p) (clockUsed K (M .view (t .state)) a) } = if-=-not _ _ no-reset in
+          let after : entryAfter K connections (record { key = P .key; connection = c }) (p .from) (onWire p) (clockUsed K connections (M .view (t .state)) a) ≡ record { key = P .key; connection = passed c (p .from) (onWire p) (clockUsed K connections (M .view (t .state)) a) } = if-=-not _ _ no-reset in
           filter-matched P (M .view (t .state)) a (rw (found .0) (al .ours .inside))
-          ∙ ap (matched K (M .view (t .state)) a) (found .0)
+          ∙ ap (matched K connections (M .view (t .state)) a) (found .0)
           ∙ rw (al .ours .there, found .1, brings, verdict, after)
 
       answer-is-0 : M .run (t .state) q .answer ≡ 0
-      answer-is-0 = keeps .answered (t .state) q a (kept .sound) read ∙ ap (λ (r : Reply K). r .answer) filter-passes
+      answer-is-0 = keeps .answered (t .state) q a (kept .sound) read ∙ ap (λ (r : Reply K connections). r .answer) filter-passes
 
       place-is-ours : M .run (t .state) q .place ≡ t .place
-      place-is-ours = keeps .placed (t .state) q a (kept .sound) read ∙ ap (λ (r : Reply K). r .place) filter-passes
+      place-is-ours = keeps .placed (t .state) q a (kept .sound) read ∙ ap (λ (r : Reply K connections). r .place) filter-passes
 
       arrival-passes : passes M s₀ P t q ≡ true
       unfolding passes
@@ -226,12 +228,12 @@ module _ {K : Keys} (M : Machine K) (Sound : M .State → Type 0) (keeps : Keeps
 
       arrival-kept : ((now : ℕ) → Holds (passed c (p .from) (onWire p) now) (p ∷ t .passed)) → Heard P (p ∷ t .passed) → Table-kept (afterSegment M s₀ P t q (t .place) p)
       arrival-kept holds-after heard-after =
-          let now : ℕ = clockUsed K (M .view (t .state)) a in
-          let c' : Connection = passed c (p .from) (onWire p) (clockUsed K (M .view (t .state)) a) in
-          let renewed = passed-renewed c (p .from) (onWire p) (clockUsed K (M .view (t .state)) a) no-reset in
-          let table = keeps .left (t .state) q a (kept .sound) read ∙ ap (λ (r : Reply K). r .table) filter-passes in
+          let now : ℕ = clockUsed K connections (M .view (t .state)) a in
+          let c' : Connection = passed c (p .from) (onWire p) (clockUsed K connections (M .view (t .state)) a) in
+          let renewed = passed-renewed c (p .from) (onWire p) (clockUsed K connections (M .view (t .state)) a) no-reset in
+          let table = keeps .left (t .state) q a (kept .sound) read ∙ ap (λ (r : Reply K connections). r .table) filter-passes in
           let r = pass-on-ours P known (M .view (t .state)) (keeps .sound-table (t .state) (kept .sound)) (t .place) c c' a (al .ours) (al .others) (renewed .side ∙ al .ours .our-side) in
-          segment-kept p a read brings arrival-passes (t .place) c' (rw table (r .0)) (rw table (r .1)) (holds-after (clockUsed K (M .view (t .state)) a)) heard-after (renewed .deadline) (renewed .life)
+          segment-kept p a read brings arrival-passes (t .place) c' (rw table (r .0)) (rw table (r .1)) (holds-after (clockUsed K connections (M .view (t .state)) a)) heard-after (renewed .deadline) (renewed .life)
 
   -- The events, one by one
 

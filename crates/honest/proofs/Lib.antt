@@ -2,6 +2,8 @@ pub mod Lists
 pub mod Sends
 pub mod Bounds
 pub mod Search
+pub mod Simulation
 pub mod Table
 pub mod Arrival
 pub mod Demand3
+pub mod Demand2Lists

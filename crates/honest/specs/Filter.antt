@@ -1,140 +1,26 @@
--- The filter without bytes: rows 11 to 15 and 0 of document 01 over a clock and a list of entries.
-use Prim.Native.Nat.{ℕ, _+_, _-_, _<_, max}
+-- The filter at the entries of the table: rows 11 to 15 and 0 of document 01, with a connection's two records in each entry.
+use Prim.Native.Nat.{ℕ, _<_}
 use mathlib.Core.Path.{_≡_}
 use mathlib.Core.Logic.{_⊎_}
-use mathlib.Core.Bool.{Bool, true, _&&_, _||_}
-use mathlib.Core.List.{List, [], _∷_}
-use lib.ListN.{length, getD, set}
-use Rattle.choice.specs.Choice.{if_then_else_, _<ᵇ_, _≤ᵇ_, _=ᵇ_}
-use Rattle.segment.specs.Flags.{rst, SYN}
-use Rattle.segment.specs.declared.Segment.{Segment}
-use Rattle.connection.specs.Decision.{verdictOn, verdictNumber, free, opened, passed}
+use mathlib.Core.Bool.{true}
+use lib.ListN.{length, getD}
+use Rattle.connection.specs.Decision.{verdictOn, free, opened, passed}
 use Rattle.connection.specs.Sound.{soundConnection}
 use Rattle.connection.specs.declared.Connection.{Connection}
-use Rattle.connection.specs.declared.Verdict.{Verdict}
-use Rattle.connection.specs.declared.Verdict.the-variants.{Pass, NotAllowed, SequenceMissed, AckMissed}
+use Rattle.honest.specs.Keys.{Keys}
+use Rattle.honest.specs.Rows.{Bodies, Table, freeEntry}
 
--- Addresses and ports, whatever their size: a test of equality, and the other way round
-pub record Keys : Type 1 where
-  pub Key : Type 0
-  pub same : Key → Key → Bool
-  pub reverse : Key → Key
-  -- all zeros, in a free entry
-  pub none : Key
-  pub same-refl : (k : Key) → same k k ≡ true
-  pub same-true : (j k : Key) → same j k ≡ true → j ≡ k
-  pub reverse-reverse : (k : Key) → reverse (reverse k) ≡ k
+abbrev pub connections : Bodies
+connections = record {
+  Body = Connection;
+  side = λ (c : Connection). c .side;
+  deadline = λ (c : Connection). c .deadline;
+  verdict = verdictOn;
+  passed = passed;
+  opened = opened;
+  free = free;
+}
 
--- the place of every answer but a pass
-abbrev pub nowhere : ℕ
-nowhere = 65535
-
-module _ (K : Keys) where
-  -- addresses and ports stand the opener's way round
-  pub record Entry : Type 0 where
-    pub key : K .Key
-    pub connection : Connection
-
-  pub record Table : Type 0 where
-    pub clock : ℕ
-    pub entries : List Entry
-
-  -- a well-formed call: the packet's side, the clock given, addresses and ports as the packet has them, and its segment
-  pub record Ask : Type 0 where
-    pub side : ℕ
-    pub clock : ℕ
-    pub key : K .Key
-    pub segment : Segment
-
-  pub record Reply : Type 0 where
-    pub answer : ℕ
-    pub place : ℕ
-    pub table : Table
-
-  abbrev pub freeEntry : Entry
-  freeEntry = record { key = K .none; connection = free }
-
-  -- clock used: the larger of the one given and the header's
-  abbrev pub clockUsed : Table → Ask → ℕ
-  clockUsed t a = max (a .clock) (t .clock)
-
-  -- an entry is live if its deadline is above the clock used, else expired; a free one has deadline 0
-  abbrev pub live : ℕ → Entry → Bool
-  live now e = now <ᵇ e .connection .deadline
-
-  -- a segment matches as the opener's if its side, addresses and ports are the opener's way round
-  abbrev pub fromOpener : Entry → Ask → Bool
-  fromOpener e a = (a .side =ᵇ e .connection .side) && K .same (a .key) (e .key)
-
-  -- as the answerer's if the side is the other one and they are reversed
-  abbrev pub fromAnswerer : Entry → Ask → Bool
-  fromAnswerer e a = (a .side =ᵇ 1 - e .connection .side) && K .same (a .key) (K .reverse (e .key))
-
-  unfoldable pub matches : Entry → Ask → Bool
-  matches e a = fromOpener e a || fromAnswerer e a
-
-  -- the sender: 0 the opener, 1 the answerer
-  unfoldable pub senderOf : Entry → Ask → ℕ
-  senderOf e a = if fromOpener e a then 0 else 1
-
-  -- the first place from i on whose entry passes a test, or none: i plus the number of entries
-  unfoldable pub firstFrom : (Entry → Bool) → ℕ → List Entry → ℕ
-  firstFrom test i [] = i
-  firstFrom test i (e ∷ l) = if test e then i else firstFrom test (i + 1) l
-
-  -- the search takes the first live match from place 0 up
-  abbrev pub liveMatch : ℕ → Ask → Entry → Bool
-  liveMatch now a e = live now e && matches e a
-
-  abbrev pub search : Table → Ask → ℕ
-  search t a = firstFrom (liveMatch (clockUsed t a) a) 0 (t .entries)
-
-  -- an opening takes the lowest place that is free or expired
-  abbrev pub lowestExpired : Table → Ask → ℕ
-  lowestExpired t a = firstFrom (λ e. e .connection .deadline ≤ᵇ clockUsed t a) 0 (t .entries)
-
-  -- a refusal changes nothing
-  abbrev pub refuse : Table → ℕ → Reply
-  refuse t n = record { answer = n; place = nowhere; table = t }
-
-  -- a pass changes only the header clock and one entry
-  abbrev pub pass : Table → Ask → ℕ → Entry → Reply
-  pass t a p e = record { answer = 0; place = p; table = record { clock = clockUsed t a; entries = set (t .entries) p e } }
-
-  -- an opening: SYN without ACK from side 0
-  abbrev pub opens : Ask → Bool
-  opens a = (a .side =ᵇ 0) && (a .segment .flags =ᵇ SYN)
-
-  -- 11 and 12, or the opening
-  unfoldable pub unmatched : Table → Ask → Reply
-  unmatched t a =
-      if opens a then
-      (if lowestExpired t a <ᵇ length (t .entries) then
-      pass t a (lowestExpired t a) (record { key = a .key; connection = opened (a .side) (a .segment) (clockUsed t a) })
-      else refuse t 12)
-      else refuse t 11
-
-  -- what a pass leaves of an entry; a reset frees it
-  abbrev pub entryAfter : Entry → ℕ → Segment → ℕ → Entry
-  entryAfter e i g now =
-      if rst (g .flags) =ᵇ 1 then freeEntry
-      else record { key = e .key; connection = passed (e .connection) i g now }
-
-  abbrev pub byVerdict : Verdict → Table → Ask → ℕ → Entry → Reply
-  byVerdict Pass t a p e = pass t a p e
-  byVerdict NotAllowed t a p e = refuse t 13
-  byVerdict SequenceMissed t a p e = refuse t 14
-  byVerdict AckMissed t a p e = refuse t 15
-
-  -- 13 to 15, or the pass, on the matched entry at place p
-  unfoldable pub matched : Table → Ask → ℕ → Reply
-  matched t a p =
-      let e : Entry = getD (t .entries) p freeEntry in
-      byVerdict (verdictOn (e .connection) (senderOf e a) (a .segment)) t a p (entryAfter e (senderOf e a) (a .segment) (clockUsed t a))
-
-  unfoldable pub filter : Table → Ask → Reply
-  filter t a = if search t a <ᵇ length (t .entries) then matched t a (search t a) else unmatched t a
-
-  -- every entry is free or sound by the header clock
-  abbrev pub SoundTable : Table → Type 0
-  SoundTable t = (p : ℕ) → p < length (t .entries) → (getD (t .entries) p freeEntry ≡ freeEntry) ⊎ (soundConnection (t .clock) (getD (t .entries) p freeEntry .connection) ≡ true)
+-- every entry is free or sound by the header clock
+abbrev pub SoundTable : (K : Keys) → Table K connections → Type 0
+SoundTable K t = (p : ℕ) → p < length (t .entries) → (getD (t .entries) p (freeEntry K connections) ≡ freeEntry K connections) ⊎ (soundConnection (t .clock) (getD (t .entries) p (freeEntry K connections) .connection) ≡ true)

@@ -10,7 +10,9 @@ use Rattle.choice.specs.Choice.{if_then_else_, _=ᵇ_}
 use Rattle.segment.specs.Flags.{syn, rst, ack, SYN, SYN+ACK}
 use Rattle.connection.specs.Stages.{lifeOf}
 use Rattle.history.specs.History.{LineSegment, onWire, stageOf, Formed}
-use Rattle.honest.specs.Filter.{Keys, Table, Ask, search, nowhere}
+use Rattle.honest.specs.Keys.{Keys}
+use Rattle.honest.specs.Rows.{Ask, search, nowhere}
+use Rattle.honest.specs.Filter.{connections}
 use Rattle.honest.specs.Machine.{Said, Reading, unreadable, asks, Machine, KeepsTo}
 
 -- Events
@@ -217,7 +219,7 @@ module _ {K : Keys} (M : Machine K) (s₀ : M .State) (P : Pair K) where
     pub first-one : told L .opened ≡ false
     pub arrives : Arrives k p q L
     pub opener : p .from ≡ 0
-    pub finds-none : (a : Ask K) → M .reads q ≡ asks a → search K (M .view (told L .state)) a ≡ length (M .view (told L .state) .entries)
+    pub finds-none : (a : Ask K) → M .reads q ≡ asks a → search K connections (M .view (told L .state)) a ≡ length (M .view (told L .state) .entries)
     pub answered-0 : passes (told L) q ≡ true
 
   -- an arrival after it: each end's arrivals are its sendings in order, some left out, some several times in a row

@@ -1,7 +1,9 @@
 -- A machine that answers calls, and what must be shown of it: that it keeps to the filter without bytes.
 use Prim.Native.Nat.{ℕ}
 use mathlib.Core.Path.{_≡_}
-use Rattle.honest.specs.Filter.{Keys, Table, Ask, filter, SoundTable}
+use Rattle.honest.specs.Keys.{Keys}
+use Rattle.honest.specs.Rows.{Table, Ask, filter}
+use Rattle.honest.specs.Filter.{connections, SoundTable}
 
 -- what a machine says to a call, and the state that it leaves
 pub record Said (State : Type 0) : Type 0 where
@@ -18,7 +20,7 @@ pub record Machine (K : Keys) : Type 1 where
   pub State : Type 0
   pub Call : Type 0
   pub run : State → Call → Said State
-  pub view : State → Table K
+  pub view : State → Table K connections
   pub reads : Call → Reading (Ask K)
 
 -- each is one sentence of document 01
@@ -26,9 +28,9 @@ pub record KeepsTo (K : Keys) (M : Machine K) (Sound : M .State → Type 0) : Ty
   -- a call that is not well formed has an answer other than 0
   pub unreadable-blocked : (s : M .State) (q : M .Call) → M .reads q ≡ unreadable → M .run s q .answer ≡ 0 → ⊥
   -- any other is answered, on a sound table, by rows 11 to 15 and 0
-  pub answered : (s : M .State) (q : M .Call) (a : Ask K) → Sound s → M .reads q ≡ asks a → M .run s q .answer ≡ filter K (M .view s) a .answer
-  pub placed : (s : M .State) (q : M .Call) (a : Ask K) → Sound s → M .reads q ≡ asks a → M .run s q .place ≡ filter K (M .view s) a .place
-  pub left : (s : M .State) (q : M .Call) (a : Ask K) → Sound s → M .reads q ≡ asks a → M .view (M .run s q .next) ≡ filter K (M .view s) a .table
+  pub answered : (s : M .State) (q : M .Call) (a : Ask K) → Sound s → M .reads q ≡ asks a → M .run s q .answer ≡ filter K connections (M .view s) a .answer
+  pub placed : (s : M .State) (q : M .Call) (a : Ask K) → Sound s → M .reads q ≡ asks a → M .run s q .place ≡ filter K connections (M .view s) a .place
+  pub left : (s : M .State) (q : M .Call) (a : Ask K) → Sound s → M .reads q ≡ asks a → M .view (M .run s q .next) ≡ filter K connections (M .view s) a .table
   -- every answer but a pass changes no byte of the table
   pub blocked-keeps : (s : M .State) (q : M .Call) → (M .run s q .answer ≡ 0 → ⊥) → M .run s q .next ≡ s
   -- a sound state is a sound table, and a pass leaves it sound

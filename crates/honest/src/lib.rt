@@ -1,1 +1,2 @@
-// Definitions and theorems only: the filter without bytes, and that two honest ends are never blocked.
+// Definitions and theorems only: the filter without bytes, that it decides as the histories of its connections do, and that two
+// honest ends are never blocked.

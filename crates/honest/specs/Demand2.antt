@@ -1,0 +1,45 @@
+-- Demand 2 over lists of calls. Lists are newest first: in a ∷ l, a comes after all of l.
+use Prim.Native.Nat.{ℕ, _<_}
+use mathlib.Core.Path.{_≡_}
+use mathlib.Core.List.{List, [], _∷_}
+use lib.ListN.{length, getD, replicate}
+use Rattle.history.specs.History.{Readable}
+use Rattle.honest.specs.Keys.{Keys}
+use Rattle.honest.specs.Rows.{Bodies, Ask, Table, Reply, freeEntry, filter}
+use Rattle.honest.specs.Filter.{connections}
+use Rattle.honest.specs.Histories.{histories, Stands}
+
+module _ (K : Keys) (B : Bodies) (n : ℕ) where
+  -- the fresh table: n free places
+  abbrev pub fresh : Table K B
+  fresh = record { clock = 0; entries = replicate n (freeEntry K B) }
+
+  -- each call is lent the table that the last one left
+  unfoldable pub tableAfter : List (Ask K) → Table K B
+  tableAfter [] = fresh
+  tableAfter (a ∷ l) = filter K B (tableAfter l) a .table
+
+  -- the next call
+  abbrev pub replyAfter : List (Ask K) → Ask K → Reply K B
+  replyAfter l a = filter K B (tableAfter l) a
+
+-- every call's segment is one that the packet reader gives
+unfoldable pub AllReadable : {K : Keys} → List (Ask K) → Type 0
+AllReadable [] = Unit {0}
+AllReadable (a ∷ l) = Readable (a .segment) × AllReadable l
+
+-- a table stands for one of histories: the same clock, and entry for entry
+pub record TableStands {K : Keys} (t : Table K connections) (u : Table K histories) : Type 0 where
+  pub clock : t .clock ≡ u .clock
+  pub places : length (t .entries) ≡ length (u .entries)
+  pub entries : (p : ℕ) → p < length (t .entries) → Stands (getD (t .entries) p (freeEntry K connections)) (getD (u .entries) p (freeEntry K histories))
+
+-- after a list of calls the table stands for the histories', and the next call has the answer and the place that they give
+pub record FollowsHistories (K : Keys) (n : ℕ) (l : List (Ask K)) : Type 0 where
+  pub table : TableStands (tableAfter K connections n l) (tableAfter K histories n l)
+  pub answer : (a : Ask K) → Readable (a .segment) → replyAfter K connections n l a .answer ≡ replyAfter K histories n l a .answer
+  pub place : (a : Ask K) → Readable (a .segment) → replyAfter K connections n l a .place ≡ replyAfter K histories n l a .place
+
+-- from the fresh table of any number of places, for every list of calls
+abbrev pub Demand2 : Keys → Type 0
+Demand2 K = (n : ℕ) (l : List (Ask K)) → AllReadable l → FollowsHistories K n l
