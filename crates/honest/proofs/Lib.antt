@@ -7,3 +7,4 @@ pub mod Table
 pub mod Arrival
 pub mod Demand3
 pub mod Demand2Lists
+pub mod Demand2Machine

@@ -8,6 +8,7 @@ use Rattle.honest.specs.Keys.{Keys}
 use Rattle.honest.specs.Rows.{Bodies, Ask, Table, Reply, freeEntry, filter}
 use Rattle.honest.specs.Filter.{connections}
 use Rattle.honest.specs.Histories.{histories, Stands}
+use Rattle.honest.specs.Machine.{Reading, unreadable, asks, Machine}
 
 module _ (K : Keys) (B : Bodies) (n : ℕ) where
   -- the fresh table: n free places
@@ -43,3 +44,31 @@ pub record FollowsHistories (K : Keys) (n : ℕ) (l : List (Ask K)) : Type 0 whe
 -- from the fresh table of any number of places, for every list of calls
 abbrev pub Demand2 : Keys → Type 0
 Demand2 K = (n : ℕ) (l : List (Ask K)) → AllReadable l → FollowsHistories K n l
+
+-- And of a machine
+
+-- with a call, if it is well formed
+abbrev pub withAsk : {K : Keys} → Reading (Ask K) → List (Ask K) → List (Ask K)
+withAsk unreadable l = l
+withAsk (asks a) l = a ∷ l
+
+-- a machine's well-formed calls, as the filter is asked
+unfoldable pub asked : {K : Keys} (M : Machine K) → List (M .Call) → List (Ask K)
+asked M [] = []
+asked M (q ∷ l) = withAsk (M .reads q) (asked M l)
+
+module _ {K : Keys} (M : Machine K) (s₀ : M .State) where
+  -- each call is lent the state that the last one left
+  unfoldable pub stateAfter : List (M .Call) → M .State
+  stateAfter [] = s₀
+  stateAfter (q ∷ l) = M .run (stateAfter l) q .next
+
+  -- after a list of calls the machine's table stands for the histories', and a next call that is well formed has their answer and place
+  pub record MachineFollows (n : ℕ) (l : List (M .Call)) : Type 0 where
+    pub table : TableStands (M .view (stateAfter l)) (tableAfter K histories n (asked M l))
+    pub answer : (q : M .Call) (a : Ask K) → M .reads q ≡ asks a → M .run (stateAfter l) q .answer ≡ replyAfter K histories n (asked M l) a .answer
+    pub place : (q : M .Call) (a : Ask K) → M .reads q ≡ asks a → M .run (stateAfter l) q .place ≡ replyAfter K histories n (asked M l) a .place
+
+-- from every sound state that is a fresh table, for every list of calls
+abbrev pub Demand2Of : {K : Keys} (M : Machine K) → (M .State → Type 0) → Type 0
+Demand2Of {K} M Sound = (s₀ : M .State) → Sound s₀ → (n : ℕ) → M .view s₀ ≡ fresh K connections n → (l : List (M .Call)) → MachineFollows M s₀ n l

@@ -1,0 +1,51 @@
+-- Demand 2 of every machine that keeps to the filter.
+use Prim.Native.Nat.{ℕ}
+use mathlib.Core.Path.{_≡_, refl, sym, ap, _∙_}
+use mathlib.Core.List.{List, [], _∷_}
+use Rattle.history.specs.History.{Readable}
+use Rattle.honest.specs.Keys.{Keys}
+use Rattle.honest.specs.Rows.{Ask, Table, Reply, filter}
+use Rattle.honest.specs.Filter.{connections}
+use Rattle.honest.specs.Machine.{Reading, unreadable, asks, Machine, KeepsTo}
+use Rattle.honest.specs.Demand2.{fresh, tableAfter, AllReadable, stateAfter, withAsk, asked, MachineFollows, Demand2Of}
+use Rattle.honest.proofs.Demand2Lists.{demand2}
+
+module _ {K : Keys} (M : Machine K) (Sound : M .State → Type 0) (keeps : KeepsTo K M Sound) (readable : (q : M .Call) (a : Ask K) → M .reads q ≡ asks a → Readable (a .segment)) (s₀ : M .State) (sound : Sound s₀) (n : ℕ) (begins : M .view s₀ ≡ fresh K connections n) where
+  stays-sound : (l : List (M .Call)) → Sound (stateAfter M s₀ l)
+  unfolding stateAfter
+  stays-sound [] = sound
+  stays-sound (q ∷ l) = keeps .sound-kept (stateAfter M s₀ l) q (stays-sound l)
+
+  with-ask : (q : M .Call) (r : Reading (Ask K)) (l : List (Ask K)) → M .reads q ≡ r → AllReadable l → AllReadable (withAsk r l)
+  unfolding AllReadable
+  with-ask q unreadable l e before = before
+  with-ask q (asks a) l e before = (readable q a e, before)
+
+  all-readable : (l : List (M .Call)) → AllReadable (asked M l)
+  unfolding asked AllReadable
+  all-readable [] = tt
+  all-readable (q ∷ l) = with-ask q (M .reads q) (asked M l) refl (all-readable l)
+
+  -- one call more
+  view-next : (s : M .State) (q : M .Call) (r : Reading (Ask K)) (l : List (Ask K)) → Sound s → M .reads q ≡ r → M .view s ≡ tableAfter K connections n l → M .view (M .run s q .next) ≡ tableAfter K connections n (withAsk r l)
+  unfolding tableAfter
+  view-next s q unreadable l sound-s e before = ap (M .view) (keeps .blocked-keeps s q (keeps .unreadable-blocked s q e)) ∙ before
+  view-next s q (asks a) l sound-s e before =
+      keeps .left s q a sound-s e ∙ ap (λ (t : Table K connections). filter K connections t a .table) before
+
+  view-after : (l : List (M .Call)) → M .view (stateAfter M s₀ l) ≡ tableAfter K connections n (asked M l)
+  unfolding stateAfter asked tableAfter
+  view-after [] = begins
+  view-after (q ∷ l) = view-next (stateAfter M s₀ l) q (M .reads q) (asked M l) (stays-sound l) refl (view-after l)
+
+  machine-follows : (l : List (M .Call)) → MachineFollows M s₀ n l
+  machine-follows l =
+      let follows = demand2 K n (asked M l) (all-readable l) in
+      record {
+        table = rw (view-after l) (follows .table);
+        answer = λ q a e. keeps .answered (stateAfter M s₀ l) q a (stays-sound l) e ∙ ap (λ (t : Table K connections). filter K connections t a .answer) (view-after l) ∙ follows .answer a (readable q a e);
+        place = λ q a e. keeps .placed (stateAfter M s₀ l) q a (stays-sound l) e ∙ ap (λ (t : Table K connections). filter K connections t a .place) (view-after l) ∙ follows .place a (readable q a e);
+      }
+
+pub demand2-of : {K : Keys} (M : Machine K) (Sound : M .State → Type 0) → KeepsTo K M Sound → ((q : M .Call) (a : Ask K) → M .reads q ≡ asks a → Readable (a .segment)) → Demand2Of M Sound
+demand2-of M Sound keeps readable s₀ sound n begins = machine-follows M Sound keeps readable s₀ sound n begins
