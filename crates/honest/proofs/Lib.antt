@@ -8,3 +8,8 @@ pub mod Arrival
 pub mod Demand3
 pub mod Demand2Lists
 pub mod Demand2Machine
+pub mod SoundKept
+pub mod Instance
+pub mod Marked
+pub mod Check
+pub mod Witness

@@ -157,3 +157,12 @@ module _ (K : Keys) where
 
     pub outcome : Outcome
     outcome = ⊎-elim matched-outcome unmatched-outcome (lt-or-ge (search K connections t a) (length (t .entries)))
+
+    -- a refusal changes nothing
+    pub refusal-keeps : (filter K connections t a .answer ≡ 0 → ⊥) → filter K connections t a .table ≡ t
+    refusal-keeps refused = go outcome
+      where
+        go : Outcome → filter K connections t a .table ≡ t
+        go (refuses _ kept) = kept
+        go (passes _ _ _ _ is) = absurd (refused (rw is))
+        go (makes _ _ _ is) = absurd (refused (rw is))

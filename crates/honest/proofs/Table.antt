@@ -196,15 +196,6 @@ module _ {K : Keys} (P : Pair K) where
       go (passes _ _ _ _ is) = rw is
       go (makes _ _ _ is) = rw is
 
-  -- a refusal changes nothing
-  pub refusal-keeps : (t : Table K connections) (a : Ask K) → (filter K connections t a .answer ≡ 0 → ⊥) → filter K connections t a .table ≡ t
-  refusal-keeps t a refused = go (outcome K t a)
-    where
-      go : Outcome K t a → filter K connections t a .table ≡ t
-      go (refuses _ kept) = kept
-      go (passes _ _ _ _ is) = absurd (refused (rw is))
-      go (makes _ _ _ is) = absurd (refused (rw is))
-
   -- on a match: the answer, the place and the table by the verdict
   pub filter-matched : (t : Table K connections) (a : Ask K) → search K connections t a < length (t .entries) → filter K connections t a ≡ matched K connections t a (search K connections t a)
   unfolding filter

@@ -5,3 +5,8 @@ pub mod Machine
 pub mod Honest
 pub mod Histories
 pub mod Demand2
+pub mod Typed
+pub mod Instance
+pub mod IPv4
+pub mod Marked
+pub mod Witness

@@ -1,0 +1,205 @@
+-- A list of events over the filter can be checked to be legal by computation.
+use Prim.Native.Nat.{ℕ, _+_, _-_, _<_, _≤_, max}
+use mathlib.Core.Path.{_≡_, refl, sym, ap, _∙_}
+use mathlib.Core.Logic.{_⊎_, inl, inr, ⊎-elim}
+use mathlib.Core.Bool.{Bool, true, false, _&&_, _||_, not}
+use mathlib.Core.List.{List, [], _∷_}
+use lib.ListN.{length}
+use borrow.Author.Tests.{ltb-true, leb-true, eq-eqb, eqb-true, lt-ltb}
+use Rattle.choice.specs.Choice.{if_then_else_, _<ᵇ_, _≤ᵇ_, _=ᵇ_}
+use Rattle.choice.proofs.Tests.{&&-true, ||-true, false-true}
+use Rattle.segment.specs.Flags.{syn, rst, ack, SYN, SYN+ACK}
+use Rattle.segment.specs.declared.Segment.{Segment}
+use Rattle.connection.specs.Ranges.{widest}
+use Rattle.history.specs.History.{LineSegment, onWire, Formed}
+use Rattle.honest.specs.Keys.{Keys}
+use Rattle.honest.specs.Rows.{Table, Ask, search}
+use Rattle.honest.specs.Filter.{connections}
+use Rattle.honest.specs.Machine.{asks, Machine}
+use Rattle.honest.specs.Honest.{Label, opening, arrival, other, Event, send, call, delivery, Pair, sentBy, Sent, receivedBy, highest, some, ackOf, edgeOf, endOf, answered, sideOf, keyOf, FirstSegment, LaterSegment, Honest, first, later, told, passes, Live, said, Is, Arrived, Passed, Arrives, Opening, Arrival, FairCall, Fair, Legal}
+use Rattle.honest.specs.Instance.{ListCall, listMachine}
+
+-- Tests with what they show
+
+pub record Test (A : Type 0) : Type 0 where
+  pub holds : Bool
+  pub shows : holds ≡ true → A
+
+module _ {A B : Type 0} where
+  abbrev both : Test A → Test B → Test (A × B)
+  both s t = record { holds = s .holds && t .holds; shows = λ e. let h = &&-true (s .holds) (t .holds) e in (s .shows (h .0), t .shows (h .1)) }
+
+  abbrev either : Test A → Test B → Test (A ⊎ B)
+  either s t = record { holds = s .holds || t .holds; shows = λ e. ⊎-elim (λ h. inl (s .shows h)) (λ h. inr (t .shows h)) (||-true (s .holds) (t .holds) e) }
+
+  abbrev so : (A → B) → Test A → Test B
+  so f t = record { holds = t .holds; shows = λ e. f (t .shows e) }
+
+abbrev yes : {A : Type 0} → A → Test A
+yes a = record { holds = true; shows = λ _. a }
+
+abbrev no : {A : Type 0} → Test A
+no = record { holds = false; shows = λ e. false-true e }
+
+abbrev isTrue : (b : Bool) → Test (b ≡ true)
+isTrue b = record { holds = b; shows = λ e. e }
+
+pub not-true : (b : Bool) → not b ≡ true → b ≡ false
+not-true true e = false-true e
+not-true false e = refl
+
+abbrev isFalse : (b : Bool) → Test (b ≡ false)
+isFalse b = record { holds = not b; shows = not-true b }
+
+abbrev equal : (m n : ℕ) → Test (m ≡ n)
+equal m n = record { holds = m =ᵇ n; shows = eqb-true m n }
+
+abbrev atMost : (m n : ℕ) → Test (m ≤ n)
+atMost m n = record { holds = m ≤ᵇ n; shows = leb-true m n }
+
+abbrev below : (m n : ℕ) → Test (m < n)
+below m n = record { holds = m <ᵇ n; shows = ltb-true m n }
+
+-- asked only where the first holds
+pub if-shows : {A : Type 0} (b : Bool) (t : Test A) → not b || t .holds ≡ true → b ≡ true → A
+if-shows true t e _ = t .shows e
+if-shows false t e f = false-true f
+
+abbrev ifEqual : {A : Type 0} (m n : ℕ) → Test A → Test (m ≡ n → A)
+ifEqual m n t = record { holds = not (m =ᵇ n) || t .holds; shows = λ e is. if-shows (m =ᵇ n) t e (eq-eqb m n is) }
+
+-- Segments
+
+abbrev sameLine : (p g : LineSegment) → Test (p ≡ g)
+sameLine p g =
+    so (λ h i. record { from = h .0 i; flags = h .1 .0 i; start = h .1 .1 .0 i; length = h .1 .1 .1 .0 i; acked = h .1 .1 .1 .1 .0 i; window = h .1 .1 .1 .1 .1 i })
+    (both (equal (p .from) (g .from)) (both (equal (p .flags) (g .flags)) (both (equal (p .start) (g .start)) (both (equal (p .length) (g .length)) (both (equal (p .acked) (g .acked)) (equal (p .window) (g .window)))))))
+
+abbrev sameSegment : (p g : Segment) → Test (p ≡ g)
+sameSegment p g =
+    so (λ h i. record { seq = record { 0 = h .0 i }; ack = record { 0 = h .1 .0 i }; window = record { 0 = h .1 .1 .0 i }; flags = h .1 .1 .1 .0 i; octets = record { 0 = h .1 .1 .1 .1 i } })
+    (both (equal (p .seq .0) (g .seq .0)) (both (equal (p .ack .0) (g .ack .0)) (both (equal (p .window .0) (g .window .0)) (both (equal (p .flags) (g .flags)) (equal (p .octets .0) (g .octets .0))))))
+
+abbrev formed : (p : LineSegment) → Test (Formed p)
+formed p = so (λ h. record { window-fits = h .0; syn-alone = h .1 }) (both (atMost (p .window) widest) (ifEqual (syn (p .flags)) 1 (equal (p .length) 1)))
+
+-- Events
+
+-- where neither this sending nor one before is past the k-th of end i
+pub one-more : {A : ℕ → LineSegment → Type 0} (i k n : ℕ) (p : LineSegment) → (p .from ≡ i → n ≤ k) → ((j : ℕ) (g : LineSegment) → A j g → g .from ≡ i → j ≤ k) → (j : ℕ) (g : LineSegment) → ((j ≡ n) × (g ≡ p)) ⊎ A j g → g .from ≡ i → j ≤ k
+one-more i k n p this before j g (inl (same, is)) of-i = rw same (this (ap (λ (x : LineSegment). x .from) (sym is) ∙ of-i))
+one-more i k n p this before j g (inr was) of-i = before j g was of-i
+
+module _ {K : Keys} (t₀ : Table K connections) (P : Pair K) where
+  abbrev M : Machine K
+  M = listMachine K
+
+  abbrev Seen : Type 0
+  Seen = List (Event (ListCall K))
+
+  abbrev firstSegment : (p : LineSegment) → Test (FirstSegment P p)
+  firstSegment p =
+      so (λ h. record { flags = h .0; start = h .1 .0; acks = h .1 .1 })
+      (both (equal (p .flags) (if p .from =ᵇ 0 then SYN else SYN+ACK)) (both (equal (p .start) (P .start (p .from))) (ifEqual (p .from) 1 (equal (p .acked) (P .start 0 + 1)))))
+
+  abbrev laterSegment : (p : LineSegment) (L : Seen) → Test (LaterSegment P p L)
+  laterSegment p L =
+      so (λ h. record { has-ack = h .0 .0; no-syn = h .0 .1 .0; no-reset = h .0 .1 .1; starts = h .1 .0 .0; ends = h .1 .0 .1; acks-syn = h .1 .1 .0; acks-received = h .1 .1 .1 .0; acks-rise = h .1 .1 .1 .1 })
+      (both
+      (both (equal (ack (p .flags)) 1) (both (equal (syn (p .flags)) 0) (equal (rst (p .flags)) 0)))
+      (both
+      (both (atMost (highest ackOf (receivedBy (p .from) L)) (p .start)) (atMost (endOf p) (highest edgeOf (receivedBy (p .from) L))))
+      (both (atMost (P .start (1 - p .from) + 1) (p .acked)) (both (atMost (p .acked) (highest endOf (receivedBy (p .from) L))) (atMost (highest ackOf (sentBy (p .from) L)) (p .acked))))))
+
+  abbrev honest : (p : LineSegment) (L : Seen) → Test (Honest P p L)
+  honest p L =
+      so (λ h. ⊎-elim (λ f. first (f .0) (f .1 .0) (f .1 .1)) (λ l. later (l .0) (l .1)) h)
+      (either
+      (both (firstSegment p) (both (isFalse (answered (p .from) L)) (ifEqual (p .from) 1 (isTrue (some (λ g. g .flags =ᵇ SYN) (receivedBy 1 L))))))
+      (both (laterSegment p L) (isTrue (answered (p .from) L))))
+
+  abbrev wasSent : (k : ℕ) (p : LineSegment) (L : Seen) → Test (Sent k p L)
+  wasSent k p [] = no
+  wasSent k p (send g ∷ L) = either (both (sameLine p g) (equal k (length (sentBy (g .from) L)))) (wasSent k p L)
+  wasSent k p (call q l ∷ L) = wasSent k p L
+  wasSent k p (delivery j g ∷ L) = wasSent k p L
+
+  abbrev arrives : (k : ℕ) (p : LineSegment) (q : ListCall K) (L : Seen) → Test (Arrives M t₀ P k p q L)
+  arrives k p q L =
+      so (λ h. record { sent = h .0; clock = q .0 .clock; brings = λ i. asks (record { side = h .1 .0 i; clock = q .0 .clock; key = h .1 .1 .0 i; segment = h .1 .1 .1 i }) })
+      (both (wasSent k p L)
+      (both (equal (q .0 .side) (sideOf P (p .from))) (both (so (K .same-true (q .0 .key) (keyOf P (p .from))) (isTrue (K .same (q .0 .key) (keyOf P (p .from))))) (sameSegment (q .0 .segment) (onWire p)))))
+
+  pub finds-none : (b : Ask K) (t : Table K connections) → search K connections t b ≡ length (t .entries) → (a : Ask K) → asks b ≡ asks a → search K connections t a ≡ length (t .entries)
+  finds-none b t unfound a is = let same : b ≡ a = cc in rw same at unfound
+
+  abbrev opens : (k : ℕ) (p : LineSegment) (q : ListCall K) (L : Seen) → Test (Opening M t₀ P k p q L)
+  opens k p q L =
+      so (λ h. record {
+        first-one = h .0;
+        arrives = h .1 .0;
+        opener = h .1 .1 .0;
+        finds-none = finds-none (q .0) (told M t₀ P L .state) (h .1 .1 .1 .0);
+        answered-0 = h .1 .1 .1 .1;
+      })
+      (both (isFalse (told M t₀ P L .opened))
+      (both (arrives k p q L)
+      (both (equal (p .from) 0)
+      (both (equal (search K connections (told M t₀ P L .state) (q .0)) (length (told M t₀ P L .state .entries))) (isTrue (passes M t₀ P (told M t₀ P L) q))))))
+
+  abbrev isLive : (q : ListCall K) (L : Seen) → Test (Live M t₀ P q L)
+  isLive q L = below (max (q .0 .clock) (told M t₀ P L .passClock)) (told M t₀ P L .until)
+
+  -- no later sending of end i has arrived
+  abbrev inOrder : (i k : ℕ) (L : Seen) → Test ((j : ℕ) (g : LineSegment) → Arrived M t₀ P j g L → g .from ≡ i → j ≤ k)
+  inOrder i k [] = yes (λ j g never. absurd never)
+  inOrder i k (send p ∷ L) = inOrder i k L
+  inOrder i k (call q (opening n p) ∷ L) = so (λ h. one-more i k n p (h .0) (h .1)) (both (ifEqual (p .from) i (atMost n k)) (inOrder i k L))
+  inOrder i k (call q (arrival n p) ∷ L) = so (λ h. one-more i k n p (h .0) (h .1)) (both (ifEqual (p .from) i (atMost n k)) (inOrder i k L))
+  inOrder i k (call q other ∷ L) = so (λ h j g was. ⊎-elim (λ never. absurd never) (h j g) was) (inOrder i k L)
+  inOrder i k (delivery n p ∷ L) = inOrder i k L
+
+  abbrev comes : (k : ℕ) (p : LineSegment) (q : ListCall K) (L : Seen) → Test (Arrival M t₀ P k p q L)
+  comes k p q L =
+      so (λ h. record { after-opening = h .0; arrives = h .1 .0; in-order = h .1 .1 .0; live = h .1 .1 .1 })
+      (both (isTrue (told M t₀ P L .opened)) (both (arrives k p q L) (both (inOrder (p .from) k L) (isLive q L))))
+
+  -- refused, or passed elsewhere, or once the connection has expired, or before it was opened
+  abbrev elsewhere : (q : ListCall K) (L : Seen) → Test (FairCall M t₀ P other q L)
+  elsewhere q L =
+      so (λ h opened-t live passed-t same.
+      ⊎-elim (λ f. false-true (sym f ∙ opened-t))
+      (⊎-elim (λ f. false-true (sym f ∙ lt-ltb _ _ live))
+      (⊎-elim (λ f. false-true (sym f ∙ passed-t)) (λ f. false-true (sym f ∙ eq-eqb _ _ same)))) h)
+      (either (isFalse (told M t₀ P L .opened)) (either (isFalse (isLive q L .holds)) (either (isFalse (passes M t₀ P (told M t₀ P L) q)) (isFalse (said M t₀ P L q .place =ᵇ told M t₀ P L .place)))))
+
+  abbrev fairCall : (l : Label) (q : ListCall K) (L : Seen) → Test (FairCall M t₀ P l q L)
+  fairCall (opening k p) q L = opens k p q L
+  fairCall (arrival k p) q L = comes k p q L
+  fairCall other q L = elsewhere q L
+
+  abbrev isLabel : (l : Label) (k : ℕ) (p : LineSegment) → Test (Is M t₀ P l k p)
+  isLabel (opening j g) k p = both (equal k j) (sameLine p g)
+  isLabel (arrival j g) k p = both (equal k j) (sameLine p g)
+  isLabel other k p = no
+
+  abbrev hasPassed : (k : ℕ) (p : LineSegment) (L : Seen) → Test (Passed M t₀ P k p L)
+  hasPassed k p [] = no
+  hasPassed k p (send g ∷ L) = hasPassed k p L
+  hasPassed k p (call q l ∷ L) = either (both (isLabel l k p) (isTrue (passes M t₀ P (told M t₀ P L) q))) (hasPassed k p L)
+  hasPassed k p (delivery j g ∷ L) = hasPassed k p L
+
+  abbrev fair : (x : Event (ListCall K)) (L : Seen) → Test (Fair M t₀ P x L)
+  fair (send p) L = so (λ h. (h .0, h .1 .0, h .1 .1)) (both (below (p .from) 2) (both (formed p) (honest p L)))
+  fair (call q l) L = fairCall l q L
+  fair (delivery k p) L = hasPassed k p L
+
+  abbrev checked : (L : Seen) → Test (Legal M t₀ P L)
+  checked [] = yes tt
+  checked (x ∷ L) = both (fair x L) (checked L)
+
+  abbrev pub legal? : List (Event (ListCall K)) → Bool
+  legal? L = checked L .holds
+
+  pub legal?-sound : (L : List (Event (ListCall K))) → legal? L ≡ true → Legal M t₀ P L
+  legal?-sound L e = checked L .shows e

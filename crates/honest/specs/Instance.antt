@@ -1,0 +1,26 @@
+-- The filter itself as a machine.
+use Prim.Native.Nat.{ℕ, _≤_}
+use lib.ListN.{replicate}
+use Rattle.history.specs.History.{Readable}
+use Rattle.honest.specs.Keys.{Keys}
+use Rattle.honest.specs.Rows.{Table, Ask, freeEntry, filter}
+use Rattle.honest.specs.Filter.{connections, SoundTable}
+use Rattle.honest.specs.Machine.{asks, Machine}
+use Rattle.honest.specs.Typed.{TypedTable}
+
+module _ (K : Keys) where
+  -- a well-formed call: side 0 or 1, and a segment as the packet reader gives it
+  abbrev pub ListCall : Type 0
+  ListCall = (a : Ask K) × (a .side ≤ 1) × Readable (a .segment)
+
+  abbrev pub listMachine : Machine K
+  listMachine = record {
+    State = Table K connections;
+    Call = ListCall;
+    run = λ t q. record { answer = filter K connections t (q .0) .answer; place = filter K connections t (q .0) .place; next = filter K connections t (q .0) .table };
+    view = λ t. t;
+    reads = λ q. asks (q .0);
+  }
+
+  abbrev pub SoundList : Table K connections → Type 0
+  SoundList t = SoundTable K t × TypedTable K t

@@ -1,0 +1,262 @@
+-- A legal list, so that demand 3 says something: one connection, from the opening to both FINs, whose numbers cross 2^32 both
+-- ways, with losses, repeats, resends, deliveries out of order, a clock set back and other traffic.
+use Prim.Native.Nat.{ℕ, zero, suc, _+_, _-_, _^_, _≤_}
+use mathlib.Core.Path.{_≡_, refl}
+use mathlib.Core.Bool.{Bool, true, false, not, _&&_, _||_}
+use mathlib.Core.List.{List, [], _∷_, reverse}
+use native.Mathlib.Omega.{arith}
+use lib.Dec.{T}
+use lib.ListN.{getD}
+use borrow.Author.Tests.{leb-true, eqb-true, eq-eqb}
+use Rattle.choice.specs.Choice.{_=ᵇ_, _≤ᵇ_}
+use Rattle.choice.proofs.Tests.{&&-true, false-true}
+use Rattle.serial.proofs.Ring.{wrap-small}
+use Rattle.segment.specs.Flags.{syn, SYN, SYN+ACK}
+use Rattle.history.specs.History.{LineSegment, onWire, stageOf, Readable}
+use Rattle.honest.specs.Rows.{Table}
+use Rattle.honest.specs.Filter.{connections}
+use Rattle.honest.specs.Honest.{opening, arrival, other, Event, send, call, delivery, Pair, told, said}
+use Rattle.honest.specs.IPv4.{Addresses, IPv4, address, swapped}
+use Rattle.honest.specs.Instance.{ListCall, listMachine}
+use Rattle.honest.specs.Marked.{ACK, outward}
+
+-- The pair: the opener's SYN is number 2^32 − 3, the answerer's 2^32 − 2
+
+abbrev pub starts : ℕ → ℕ
+starts zero = 2 ^ 32 - 3
+starts (suc i) = 2 ^ 32 - 2
+
+abbrev pub ends : Pair IPv4
+ends = record { side = 0; key = outward; start = starts }
+
+-- Segments
+
+-- a 16-bit window, and a SYN alone
+abbrev pub wellFormed : LineSegment → Bool
+wellFormed p = (p .window ≤ᵇ 65535) && (not (syn (p .flags) =ᵇ 1) || (p .length =ᵇ 1))
+
+implied : (s t : Bool) → not s || t ≡ true → s ≡ true → t ≡ true
+implied true t e _ = e
+implied false t e f = false-true f
+
+is-true : (b : Bool) → T b → b ≡ true
+is-true true _ = refl
+is-true false never = absurd never
+
+pub readable : (p : LineSegment) → T (wellFormed p) → Readable (onWire p)
+readable p formed =
+    let h = &&-true (p .window ≤ᵇ 65535) _ (is-true _ formed) in
+    record {
+      seq-fits = wrap-small (p .start);
+      ack-fits = wrap-small (p .acked);
+      window-fits = leb-true (p .window) 65535 (h .0);
+      syn-alone = λ e. eqb-true (p .length) 1 (implied _ _ (h .1) (eq-eqb (syn (p .flags)) 1 e));
+    }
+
+-- a segment that a packet can carry
+pub record Piece : Type 0 where
+  pub line : LineSegment
+  pub formed : T (wellFormed line)
+
+abbrev pub FIN+ACK : ℕ
+FIN+ACK = 17
+
+-- by flags, s, n, a and w; s and a are counted from the SYN of the end that they belong to
+abbrev pub openerLine : (flags s n a w : ℕ) → LineSegment
+openerLine flags s n a w = record { from = 0; flags = flags; start = starts 0 + s; length = n; acked = starts 1 + a; window = w }
+
+abbrev pub answererLine : (flags s n a w : ℕ) → LineSegment
+answererLine flags s n a w = record { from = 1; flags = flags; start = starts 1 + s; length = n; acked = starts 0 + a; window = w }
+
+abbrev pub opener's : (flags s n a w : ℕ) → T (wellFormed (openerLine flags s n a w)) → Piece
+opener's flags s n a w formed = record { line = openerLine flags s n a w; formed = formed }
+
+abbrev pub answerer's : (flags s n a w : ℕ) → T (wellFormed (answererLine flags s n a w)) → Piece
+answerer's flags s n a w formed = record { line = answererLine flags s n a w; formed = formed }
+
+-- what the opener sends, in order
+abbrev pub openerSends : List Piece
+openerSends =
+    opener's SYN 0 1 0 1000 tt
+    -- 1: repeated
+    ∷ opener's SYN 0 1 0 1000 tt
+    ∷ opener's ACK 1 0 1 1000 tt
+    -- 3: over 2^32, with a zero window
+    ∷ opener's ACK 1 10 1 0 tt
+    -- 4: a later window
+    ∷ opener's ACK 11 500 101 800 tt
+    ∷ opener's ACK 511 2000 101 800 tt
+    -- 6: lost
+    ∷ opener's ACK 2511 500 101 800 tt
+    -- 7: again, after a shrunk window
+    ∷ opener's ACK 511 1000 101 800 tt
+    -- 8: again, below an acknowledgement that passed and was not delivered
+    ∷ opener's ACK 511 600 101 800 tt
+    ∷ opener's FIN+ACK 2511 1 152 1000 tt
+    ∷ []
+
+-- what the answerer sends, in order
+abbrev pub answererSends : List Piece
+answererSends =
+    answerer's SYN+ACK 0 1 1 2000 tt
+    -- 1: repeated
+    ∷ answerer's SYN+ACK 0 1 1 2000 tt
+    -- 2: over 2^32
+    ∷ answerer's ACK 1 100 1 2000 tt
+    ∷ answerer's ACK 101 0 11 3000 tt
+    -- 4: a shrunk window
+    ∷ answerer's ACK 101 0 511 100 tt
+    -- 5: passes and is delivered late
+    ∷ answerer's ACK 101 0 2511 4000 tt
+    ∷ answerer's FIN+ACK 101 51 2511 4000 tt
+    ∷ answerer's ACK 152 0 2512 4000 tt
+    ∷ []
+
+-- the k-th sending
+abbrev pub o : ℕ → Piece
+o k = getD openerSends k (opener's ACK 1 0 1 0 tt)
+
+abbrev pub a : ℕ → Piece
+a k = getD answererSends k (answerer's ACK 1 0 1 0 tt)
+
+-- Calls
+
+-- side, addresses and ports of end i
+abbrev pub sideFrom : ℕ → ℕ
+sideFrom zero = 0
+sideFrom (suc i) = 1
+
+pub side-known : (i : ℕ) → sideFrom i ≤ 1
+side-known zero = omega arith
+side-known (suc i) = omega arith
+
+abbrev pub keyFrom : ℕ → Addresses
+keyFrom zero = outward
+keyFrom (suc i) = swapped outward
+
+abbrev pub calls : (side : ℕ) → side ≤ 1 → (clock : ℕ) → Addresses → Piece → ListCall IPv4
+calls side known clock key p = (record { side = side; clock = clock; key = key; segment = onWire (p .line) }, known, readable (p .line) (p .formed))
+
+abbrev pub brings : (clock : ℕ) → Piece → ListCall IPv4
+brings clock p = calls (sideFrom (p .line .from)) (side-known (p .line .from)) clock (keyFrom (p .line .from)) p
+
+-- Events: of o or a, the k-th sending
+
+abbrev pub Seen : Type 0
+Seen = Event (ListCall IPv4)
+
+abbrev pub sends : Piece → Seen
+sends p = send (p .line)
+
+abbrev pub opens : (of : ℕ → Piece) (k clock : ℕ) → Seen
+opens of k clock = call (brings clock (of k)) (opening k (of k .line))
+
+abbrev pub arrives : (of : ℕ → Piece) (k clock : ℕ) → Seen
+arrives of k clock = call (brings clock (of k)) (arrival k (of k .line))
+
+abbrev pub delivers : (of : ℕ → Piece) (k : ℕ) → Seen
+delivers of k = delivery k (of k .line)
+
+-- another connection's segment, on side 0
+abbrev pub strays : (clock host port : ℕ) → Piece → Seen
+strays clock host port p = call (calls 0 (omega arith) clock (record { source = address 10 0 0 host; sourcePort = port; destination = address 10 0 0 2; destinationPort = 80 }) p) other
+
+-- a segment in the pair's name that no end has sent
+abbrev pub forges : (clock : ℕ) → Piece → Seen
+forges clock p = call (brings clock p) other
+
+-- oldest first; a call is given its clock, another's also its host and port
+abbrev pub story : List Seen
+story =
+    -- another connection opens
+    strays 5 3 5000 (opener's SYN 0 1 0 1000 tt)
+    -- the opening, at place 1; the SYN repeated and delivered
+    ∷ sends (o 0)
+    ∷ opens o 0 1000
+    ∷ sends (o 1)
+    ∷ arrives o 1 2000
+    ∷ delivers o 0
+    -- the answer, twice; the opener's ACK
+    ∷ sends (a 0)
+    ∷ sends (a 1)
+    ∷ arrives a 0 3000
+    ∷ delivers o 1
+    ∷ delivers a 0
+    ∷ sends (o 2)
+    ∷ arrives o 2 3100
+    -- the answer's first sending arrives again, then its second
+    ∷ arrives a 0 3150
+    ∷ arrives a 1 3200
+    ∷ delivers o 2
+    -- data both ways, over 2^32; the opener's window is zero
+    ∷ sends (o 3)
+    ∷ sends (a 2)
+    ∷ arrives o 3 4000
+    ∷ arrives a 2 4100
+    -- a segment of no connection, and one that is out of range: both are blocked
+    ∷ strays 4150 9 9000 (opener's ACK 1 0 1 1000 tt)
+    ∷ forges 4160 (opener's ACK 900000 10 1 1000 tt)
+    ∷ delivers o 3
+    ∷ delivers a 2
+    -- a window again; another connection opens meanwhile, and the clock is set back
+    ∷ sends (o 4)
+    ∷ sends (a 3)
+    ∷ arrives o 4 5000
+    ∷ strays 5100 5 6000 (opener's SYN 7 1 0 1000 tt)
+    ∷ arrives a 3 4500
+    ∷ delivers o 4
+    ∷ delivers a 3
+    -- sent ahead, one of the two lost; then the window shrinks, and the opener sends again from below
+    ∷ sends (o 5)
+    ∷ sends (o 6)
+    ∷ arrives o 5 6000
+    ∷ sends (a 4)
+    ∷ arrives a 4 6100
+    ∷ delivers a 4
+    ∷ sends (o 7)
+    ∷ arrives o 7 6200
+    -- out of order
+    ∷ delivers o 7
+    ∷ delivers o 5
+    -- an acknowledgement passes and is not delivered yet; the opener sends again from below it
+    ∷ sends (a 5)
+    ∷ arrives a 5 7000
+    ∷ sends (o 8)
+    ∷ arrives o 8 7100
+    ∷ delivers o 8
+    ∷ delivers o 7
+    ∷ delivers a 5
+    ∷ delivers a 5
+    ∷ delivers a 3
+    -- both FINs
+    ∷ sends (a 6)
+    ∷ arrives a 6 8000
+    ∷ delivers a 6
+    ∷ sends (o 9)
+    ∷ arrives o 9 8100
+    ∷ arrives o 9 8200
+    ∷ delivers o 9
+    ∷ sends (a 7)
+    ∷ arrives a 7 8300
+    ∷ delivers a 7
+    ∷ []
+
+abbrev pub witness : List Seen
+witness = reverse story
+
+-- What it shows besides: the answers to the calls that are no arrivals, the place that the opening took, and the last stage
+
+module _ (t₀ : Table IPv4 connections) (P : Pair IPv4) where
+  abbrev pub otherAnswers : List Seen → List ℕ
+  otherAnswers [] = []
+  otherAnswers (call q other ∷ L) = said (listMachine IPv4) t₀ P L q .answer ∷ otherAnswers L
+  otherAnswers (call q (opening k p) ∷ L) = otherAnswers L
+  otherAnswers (call q (arrival k p) ∷ L) = otherAnswers L
+  otherAnswers (send p ∷ L) = otherAnswers L
+  otherAnswers (delivery k p ∷ L) = otherAnswers L
+
+  abbrev pub placeTaken : List Seen → ℕ
+  placeTaken L = told (listMachine IPv4) t₀ P L .place
+
+  abbrev pub lastStage : List Seen → ℕ
+  lastStage L = stageOf (told (listMachine IPv4) t₀ P L .passed)
