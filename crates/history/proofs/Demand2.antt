@@ -19,7 +19,7 @@ use Rattle.connection.specs.declared.Connection.{Connection}
 use Rattle.connection.specs.declared.Verdict.{Verdict}
 use Rattle.connection.specs.declared.Verdict.the-variants.{Pass, NotAllowed, SequenceMissed, AckMissed}
 use Rattle.history.specs.Numbers.{Numbers}
-use Rattle.history.specs.History.{LineSegment, numbersOf, onWire, standsBy, placedBy, placed, judge, Holds, Formed, Readable}
+use Rattle.history.specs.History.{LineSegment, numbersOf, onWire, standsBy, placedBy, placed, judge, Holds, Formed, Placeable}
 use Rattle.history.specs.Demand2.{Presented, Legal, AllLegal, onLine, answerTo, judgedOver, leftBy, passes, connectionAfter, historyAfter, NoReset, openingHistory, Agree, Demand2}
 use Rattle.history.proofs.Step.{Near}
 use Rattle.history.proofs.Verdict.{Unanswered, Answered, judged-answered, judged-unanswered}
@@ -46,13 +46,13 @@ stands-near E s turned =
     rw (stands-nearest E s turned) record { low = nearest-near E s (omega arith) .0; high = nearest-near E s (omega arith) .1 }
 
 -- on the wire again, it is the segment that was offered
-pub onWire-placedBy : (E E' i : ℕ) (g : Segment) → Readable g → Up E → Up E' → onWire (placedBy E E' i g) ≡ g
+pub onWire-placedBy : (E E' i : ℕ) (g : Segment) → Placeable g → Up E → Up E' → onWire (placedBy E E' i g) ≡ g
 onWire-placedBy E E' i g r up up' =
     let seq = wrap-stands E (g .seq .0) up (r .seq-fits) in
     let ack = wrap-stands E' (g .ack .0) up' (r .ack-fits) in
     λ k. record { seq = record { 0 = seq k }; ack = record { 0 = ack k }; window = g .window; flags = g .flags; octets = g .octets }
 
-pub placed-formed : (E E' i : ℕ) (g : Segment) → Readable g → Formed (placedBy E E' i g)
+pub placed-formed : (E E' i : ℕ) (g : Segment) → Placeable g → Formed (placedBy E E' i g)
 placed-formed E E' i g r = record { window-fits = r .window-fits; syn-alone = r .syn-alone }
 
 -- a history that a connection has come to
@@ -164,7 +164,7 @@ after-all c h holds reached (o ∷ l) legal no-reset =
 
 -- From an opening
 
-module _ (side : ℕ) (g : Segment) (now : ℕ) (r : Readable g) (a-syn : g .flags ≡ SYN) where
+module _ (side : ℕ) (g : Segment) (now : ℕ) (r : Placeable g) (a-syn : g .flags ≡ SYN) where
   formed-first : Formed (placed [] 0 g)
   formed-first = placed-formed (numbersOf 0 [] .end) (numbersOf 1 [] .end) 0 g r
 

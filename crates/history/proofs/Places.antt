@@ -12,16 +12,20 @@ use Rattle.choice.proofs.Tests.{false-true, &&-true}
 use Rattle.serial.specs.Ring.{wrap}
 use Rattle.serial.proofs.Ring.{nearest-wrap}
 use Rattle.segment.specs.Flags.{ack}
+use Rattle.segment.specs.Readable.{Readable}
 use Rattle.segment.specs.declared.Segment.{Segment}
 use Rattle.connection.specs.Ranges.{ackRange}
 use Rattle.connection.specs.Decision.{verdictOn}
 use Rattle.connection.specs.declared.Connection.{Connection}
 use Rattle.connection.specs.declared.Verdict.the-variants.{Pass, SequenceMissed, AckMissed}
 use Rattle.history.specs.Numbers.{Numbers, boundsI-II, boundsIII-IV}
-use Rattle.history.specs.History.{LineSegment, numbersOf, stageOf, standsBy, judge, Holds, Readable}
+use Rattle.history.specs.History.{LineSegment, numbersOf, stageOf, standsBy, judge, Holds, Placeable}
 use Rattle.history.proofs.Step.{Near, start-near, ack-near}
 use Rattle.history.proofs.Verdict.{Answered, spans}
 use Rattle.history.proofs.Demand2.{stands-nearest, wrap-stands, answered, judged}
+
+pub readable-placeable : (g : Segment) → Readable g → Placeable g
+readable-placeable g r = record { seq-fits = r .seq-fits; ack-fits = r .ack-fits; window-fits = r .window-fits; syn-alone = r .syn-alone }
 
 near-only : (E S : ℕ) → 2 ^ 32 ≤ E → Near E S → S ≡ standsBy E (wrap S)
 near-only E S turned near = sym (stands-nearest E (wrap S) turned ∙ nearest-wrap E S (omega arith) (near .low) (near .high))
@@ -63,7 +67,7 @@ nowhere P s X here only = (
   (λ none. not-true (P X) (none X here)),
 )
 
-module _ (c : Connection) (h : List LineSegment) (holds : Holds c h) (both-heard : Answered h) (turned : (k : ℕ) → k < 2 → 2 ^ 32 ≤ numbersOf k h .end) (i : ℕ) (side : i < 2) (g : Segment) (r : Readable g) where
+module _ (c : Connection) (h : List LineSegment) (holds : Holds c h) (both-heard : Answered h) (turned : (k : ℕ) → k < 2 → 2 ^ 32 ≤ numbersOf k h .end) (i : ℕ) (side : i < 2) (g : Segment) (r : Placeable g) where
   abbrev F : Numbers
   F = numbersOf i h
 

@@ -23,7 +23,7 @@ use Rattle.connection.specs.declared.Connection.{Connection}
 use Rattle.connection.specs.declared.End.{End}
 use Rattle.connection.specs.declared.Verdict.the-variants.{Pass}
 use Rattle.history.specs.Numbers.{Numbers, onRing, Spans}
-use Rattle.history.specs.History.{LineSegment, onWire, placedBy, Formed, Readable}
+use Rattle.history.specs.History.{LineSegment, onWire, placedBy, Formed, Placeable}
 use Rattle.history.specs.Records.{Fits, TwoEnds}
 use Rattle.history.proofs.Step.{Near, sequence-line, ack-line, sent-line, granted-line, sentTo-spans, grantedTo-spans}
 use Rattle.history.proofs.Verdict.{two-sender, two-other}
@@ -339,7 +339,7 @@ unfolding soundEnd ringMinus
 unheard-sound = refl
 
 -- an opening is sound
-pub opened-sound : (side : ℕ) (g : Segment) (now : ℕ) → side ≤ 1 → Readable g → soundConnection now (opened side g now) ≡ true
+pub opened-sound : (side : ℕ) (g : Segment) (now : ℕ) → side ≤ 1 → Placeable g → soundConnection now (opened side g now) ≡ true
 unfolding opened soundUnanswered
 opened-sound side g now known r =
     let wire = onWire-placedBy 0 0 0 g r (inl refl) (inl refl) in
@@ -355,7 +355,7 @@ opened-sound side g now known r =
     }
 
 -- a pass of a sound connection leaves it sound, unless it frees it
-pub passed-sound : (clock : ℕ) (c : Connection) (x : ℕ → End) → TwoEnds c x → soundConnection clock c ≡ true → (i : ℕ) → i < 2 → (g : Segment) → Readable g → (now : ℕ) → verdictOn c i g ≡ Pass → (rst (g .flags) ≡ 1 → ⊥) → soundConnection now (passed c i g now) ≡ true
+pub passed-sound : (clock : ℕ) (c : Connection) (x : ℕ → End) → TwoEnds c x → soundConnection clock c ≡ true → (i : ℕ) → i < 2 → (g : Segment) → Placeable g → (now : ℕ) → verdictOn c i g ≡ Pass → (rst (g .flags) ≡ 1 → ⊥) → soundConnection now (passed c i g now) ≡ true
 passed-sound clock c x ends sound i side g r now pass no-reset =
     let E = lifted (x i) .end in
     let E' = lifted (x (1 - i)) .end in

@@ -10,7 +10,7 @@ use Rattle.connection.specs.Decision.{verdictOn, verdictNumber, free, opened, p
 use Rattle.connection.specs.declared.Connection.{Connection}
 use Rattle.connection.specs.declared.Verdict.{Verdict}
 use Rattle.connection.specs.declared.Verdict.the-variants.{Pass}
-use Rattle.history.specs.History.{LineSegment, placed, judge, Holds, Readable}
+use Rattle.history.specs.History.{LineSegment, placed, judge, Holds, Placeable}
 
 -- a segment presented to a connection: of its opener (0) or its answerer (1), at a clock used
 pub record Presented : Type 0 where
@@ -20,7 +20,7 @@ pub record Presented : Type 0 where
 
 pub record Legal (o : Presented) : Type 0 where
   pub sender-known : o .sender < 2
-  pub readable : Readable (o .segment)
+  pub readable : Placeable (o .segment)
 
 -- each of a list is legal
 unfoldable pub AllLegal : List Presented → Type 0
@@ -77,7 +77,7 @@ pub record Agree (c : Connection) (h : List LineSegment) (o : Presented) : Type 
 -- from an opening SYN g on, after every list of legal presentations of which no reset passed, and at every next legal one
 abbrev pub Demand2 : Type 0
 Demand2 =
-    (side : ℕ) (g : Segment) (now : ℕ) → Readable g → g .flags ≡ SYN →
+    (side : ℕ) (g : Segment) (now : ℕ) → Placeable g → g .flags ≡ SYN →
     (l : List Presented) → AllLegal l → NoReset (openingHistory g) l →
     (o : Presented) → Legal o →
     Agree (connectionAfter (opened side g now) l) (historyAfter (openingHistory g) l) o

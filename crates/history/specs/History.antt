@@ -124,8 +124,9 @@ pub record Formed (p : LineSegment) : Type 0 where
   pub window-fits : p .window ≤ widest
   pub syn-alone : syn (p .flags) ≡ 1 → p .length ≡ 1
 
--- what the packet reader gives of every segment: 32-bit numbers, a 16-bit window, and a SYN alone, without payload
-pub record Readable (g : Segment) : Type 0 where
+-- fit for a place on the line: 32-bit numbers, a 16-bit window, and a SYN alone, without payload. Every segment that the packet
+-- reader gives is (`readable-placeable`)
+pub record Placeable (g : Segment) : Type 0 where
   pub seq-fits : g .seq .0 < 2 ^ 32
   pub ack-fits : g .ack .0 < 2 ^ 32
   pub window-fits : g .window .0 ≤ widest

@@ -14,13 +14,13 @@ use Rattle.connection.specs.Stages.{lifeOf}
 use Rattle.connection.specs.Decision.{verdictOn, passed, opened}
 use Rattle.connection.specs.declared.Connection.{Connection}
 use Rattle.connection.specs.declared.Verdict.the-variants.{Pass}
-use Rattle.history.specs.History.{LineSegment, placed, judge, Holds, Readable}
+use Rattle.history.specs.History.{LineSegment, placed, judge, Holds, Placeable}
 use Rattle.history.proofs.Demand2.{Reached, judged, pass-holds, holds-first, reached-first}
 use Rattle.honest.specs.Keys.{Keys}
 use Rattle.honest.specs.Rows.{Ask, opens, Entry, Table, freeEntry, filter}
 use Rattle.honest.specs.Filter.{connections}
 use Rattle.honest.specs.Histories.{grown, histories, HoldsOrFree, Stands}
-use Rattle.honest.specs.Demand2.{fresh, tableAfter, AllReadable, Demand2}
+use Rattle.honest.specs.Demand2.{fresh, tableAfter, AllPlaceable, Demand2}
 use Rattle.honest.proofs.Arrival.{passed-renewed}
 use Rattle.honest.proofs.Simulation.{Agreeing, Related, SameReply, filter-same}
 
@@ -35,7 +35,7 @@ module _ {K : Keys} where
   StandsReached e f = Stands e f × (0 < f .connection .deadline → Reached (f .connection .segments))
 
   -- an opening
-  made-stands : (a : Ask K) (now : ℕ) → Readable (a .segment) → opens K a ≡ true → StandsReached (record { key = a .key; connection = opened (a .side) (a .segment) now }) (record { key = a .key; connection = grown (a .side) (placed [] 0 (a .segment) ∷ []) now })
+  made-stands : (a : Ask K) (now : ℕ) → Placeable (a .segment) → opens K a ≡ true → StandsReached (record { key = a .key; connection = opened (a .side) (a .segment) now }) (record { key = a .key; connection = grown (a .side) (placed [] 0 (a .segment) ∷ []) now })
   unfolding opened
   made-stands a now readable opening =
       let a-syn : a .segment .flags ≡ SYN = eqb-true _ _ (&&-true (a .side =ᵇ 0) (a .segment .flags =ᵇ SYN) opening .1) in
@@ -45,7 +45,7 @@ module _ {K : Keys} where
       )
 
   -- a pass on a live entry
-  module _ {e : Entry K connections} {f : Entry K histories} (i : ℕ) (g : Segment) (r : StandsReached e f) (live-now : 0 < e .connection .deadline) (known : i < 2) (readable : Readable g) where
+  module _ {e : Entry K connections} {f : Entry K histories} (i : ℕ) (g : Segment) (r : StandsReached e f) (live-now : 0 < e .connection .deadline) (known : i < 2) (readable : Placeable g) where
     holds : Holds (e .connection) (f .connection .segments)
     holds = live-holds _ _ (r .0 .numbers) live-now
 
@@ -63,7 +63,7 @@ module _ {K : Keys} where
           λ _. after .1,
         )
 
-  entries-agree : Agreeing StandsReached Readable
+  entries-agree : Agreeing StandsReached Placeable
   entries-agree = record {
     key = λ r. r .0 .key;
     side = λ r. r .0 .side;
@@ -83,11 +83,11 @@ module _ {K : Keys} where
     entries = λ p inside. rw (getD-replicate n p (freeEntry K connections) (freeEntry K connections) (rw length-replicate at inside), getD-replicate n p (freeEntry K histories) (freeEntry K histories) (rw length-replicate at inside)) (entries-agree .free);
   }
 
-  call-same : (t : Table K connections) (u : Table K histories) → Related StandsReached t u → (a : Ask K) → Readable (a .segment) → SameReply StandsReached (filter K connections t a) (filter K histories u a)
-  call-same = filter-same StandsReached Readable entries-agree
+  call-same : (t : Table K connections) (u : Table K histories) → Related StandsReached t u → (a : Ask K) → Placeable (a .segment) → SameReply StandsReached (filter K connections t a) (filter K histories u a)
+  call-same = filter-same StandsReached Placeable entries-agree
 
-  tables-related : (n : ℕ) (l : List (Ask K)) → AllReadable l → Related StandsReached (tableAfter K connections n l) (tableAfter K histories n l)
-  unfolding tableAfter AllReadable
+  tables-related : (n : ℕ) (l : List (Ask K)) → AllPlaceable l → Related StandsReached (tableAfter K connections n l) (tableAfter K histories n l)
+  unfolding tableAfter AllPlaceable
   tables-related n [] readable = fresh-related n
   tables-related n (a ∷ l) readable = call-same _ _ (tables-related n l (readable .1)) a (readable .0) .table
 

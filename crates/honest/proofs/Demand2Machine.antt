@@ -2,27 +2,27 @@
 use Prim.Native.Nat.{ℕ}
 use mathlib.Core.Path.{_≡_, refl, sym, ap, _∙_}
 use mathlib.Core.List.{List, [], _∷_}
-use Rattle.history.specs.History.{Readable}
+use Rattle.history.specs.History.{Placeable}
 use Rattle.honest.specs.Keys.{Keys}
 use Rattle.honest.specs.Rows.{Ask, Table, Reply, filter}
 use Rattle.honest.specs.Filter.{connections}
 use Rattle.honest.specs.Machine.{Reading, unreadable, asks, Machine, KeepsTo}
-use Rattle.honest.specs.Demand2.{fresh, tableAfter, AllReadable, stateAfter, withAsk, asked, MachineFollows, Demand2Of}
+use Rattle.honest.specs.Demand2.{fresh, tableAfter, AllPlaceable, stateAfter, withAsk, asked, MachineFollows, Demand2Of}
 use Rattle.honest.proofs.Demand2Lists.{demand2}
 
-module _ {K : Keys} (M : Machine K) (Sound : M .State → Type 0) (keeps : KeepsTo K M Sound) (readable : (q : M .Call) (a : Ask K) → M .reads q ≡ asks a → Readable (a .segment)) (s₀ : M .State) (sound : Sound s₀) (n : ℕ) (begins : M .view s₀ ≡ fresh K connections n) where
+module _ {K : Keys} (M : Machine K) (Sound : M .State → Type 0) (keeps : KeepsTo K M Sound) (readable : (q : M .Call) (a : Ask K) → M .reads q ≡ asks a → Placeable (a .segment)) (s₀ : M .State) (sound : Sound s₀) (n : ℕ) (begins : M .view s₀ ≡ fresh K connections n) where
   stays-sound : (l : List (M .Call)) → Sound (stateAfter M s₀ l)
   unfolding stateAfter
   stays-sound [] = sound
   stays-sound (q ∷ l) = keeps .sound-kept (stateAfter M s₀ l) q (stays-sound l)
 
-  with-ask : (q : M .Call) (r : Reading (Ask K)) (l : List (Ask K)) → M .reads q ≡ r → AllReadable l → AllReadable (withAsk r l)
-  unfolding AllReadable
+  with-ask : (q : M .Call) (r : Reading (Ask K)) (l : List (Ask K)) → M .reads q ≡ r → AllPlaceable l → AllPlaceable (withAsk r l)
+  unfolding AllPlaceable
   with-ask q unreadable l e before = before
   with-ask q (asks a) l e before = (readable q a e, before)
 
-  all-readable : (l : List (M .Call)) → AllReadable (asked M l)
-  unfolding asked AllReadable
+  all-readable : (l : List (M .Call)) → AllPlaceable (asked M l)
+  unfolding asked AllPlaceable
   all-readable [] = tt
   all-readable (q ∷ l) = with-ask q (M .reads q) (asked M l) refl (all-readable l)
 
@@ -47,5 +47,5 @@ module _ {K : Keys} (M : Machine K) (Sound : M .State → Type 0) (keeps : Keeps
         place = λ q a e. keeps .placed (stateAfter M s₀ l) q a (stays-sound l) e ∙ ap (λ (t : Table K connections). filter K connections t a .place) (view-after l) ∙ follows .place a (readable q a e);
       }
 
-pub demand2-of : {K : Keys} (M : Machine K) (Sound : M .State → Type 0) → KeepsTo K M Sound → ((q : M .Call) (a : Ask K) → M .reads q ≡ asks a → Readable (a .segment)) → Demand2Of M Sound
+pub demand2-of : {K : Keys} (M : Machine K) (Sound : M .State → Type 0) → KeepsTo K M Sound → ((q : M .Call) (a : Ask K) → M .reads q ≡ asks a → Placeable (a .segment)) → Demand2Of M Sound
 demand2-of M Sound keeps readable s₀ sound n begins = machine-follows M Sound keeps readable s₀ sound n begins

@@ -23,7 +23,7 @@ use Rattle.connection.specs.declared.Connection.{Connection}
 use Rattle.connection.specs.declared.End.{End}
 use Rattle.connection.specs.declared.Verdict.{Verdict}
 use Rattle.connection.specs.declared.Verdict.the-variants.{Pass, NotAllowed, SequenceMissed, AckMissed}
-use Rattle.history.specs.History.{Readable}
+use Rattle.history.specs.History.{Placeable}
 use Rattle.history.specs.Records.{Fits, TwoEnds}
 use Rattle.history.proofs.Sound.{sound-facts, facts-sound, opened-sound, passed-sound}
 use Rattle.honest.specs.Keys.{Keys}
@@ -173,7 +173,7 @@ module _ (K : Keys) where
     sender-known e = if-either (λ n. n < 2) _ _ _ (omega arith) (omega arith)
 
     -- what it leaves of the entry is free or sound
-    passed-entry : (e : Entry K connections) → SoundEntry (t .clock) e → Readable (a .segment) → clockUsed K connections t a < e .connection .deadline → verdictOn (e .connection) (senderOf K connections e a) (a .segment) ≡ Pass → SoundEntry (clockUsed K connections t a) (entryAfter K connections e (senderOf K connections e a) (a .segment) (clockUsed K connections t a))
+    passed-entry : (e : Entry K connections) → SoundEntry (t .clock) e → Placeable (a .segment) → clockUsed K connections t a < e .connection .deadline → verdictOn (e .connection) (senderOf K connections e a) (a .segment) ≡ Pass → SoundEntry (clockUsed K connections t a) (entryAfter K connections e (senderOf K connections e a) (a .segment) (clockUsed K connections t a))
     passed-entry e s readable live verdict = go (true-or-false (rst (a .segment .flags) =ᵇ 1))
       where
         not-free : soundConnection (t .clock) (e .connection) ≡ true
@@ -187,7 +187,7 @@ module _ (K : Keys) where
               typed = passed-typed (e .connection) (s .typed .0) (s .typed .1) (a .segment) (clockUsed K connections t a) (senderOf K connections e a) (sender-known e);
             }
 
-    pub filter-sound : SoundTable K t → TypedTable K t → a .side ≤ 1 → Readable (a .segment) → SoundTable K (filter K connections t a .table) × TypedTable K (filter K connections t a .table)
+    pub filter-sound : SoundTable K t → TypedTable K t → a .side ≤ 1 → Placeable (a .segment) → SoundTable K (filter K connections t a .table) × TypedTable K (filter K connections t a .table)
     filter-sound sound typed known readable = ((λ p inside. all p inside .sound), (λ p inside. all p inside .typed))
       where
         before : SoundEntries (t .clock) (t .entries)

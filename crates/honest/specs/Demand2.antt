@@ -3,7 +3,7 @@ use Prim.Native.Nat.{ℕ, _<_}
 use mathlib.Core.Path.{_≡_}
 use mathlib.Core.List.{List, [], _∷_}
 use lib.ListN.{length, getD, replicate}
-use Rattle.history.specs.History.{Readable}
+use Rattle.history.specs.History.{Placeable}
 use Rattle.honest.specs.Keys.{Keys}
 use Rattle.honest.specs.Rows.{Bodies, Ask, Table, Reply, freeEntry, filter}
 use Rattle.honest.specs.Filter.{connections}
@@ -25,9 +25,9 @@ module _ (K : Keys) (B : Bodies) (n : ℕ) where
   replyAfter l a = filter K B (tableAfter l) a
 
 -- every call's segment is one that the packet reader gives
-unfoldable pub AllReadable : {K : Keys} → List (Ask K) → Type 0
-AllReadable [] = Unit {0}
-AllReadable (a ∷ l) = Readable (a .segment) × AllReadable l
+unfoldable pub AllPlaceable : {K : Keys} → List (Ask K) → Type 0
+AllPlaceable [] = Unit {0}
+AllPlaceable (a ∷ l) = Placeable (a .segment) × AllPlaceable l
 
 -- a table stands for one of histories: the same clock, and entry for entry
 pub record TableStands {K : Keys} (t : Table K connections) (u : Table K histories) : Type 0 where
@@ -38,12 +38,12 @@ pub record TableStands {K : Keys} (t : Table K connections) (u : Table K histori
 -- after a list of calls the table stands for the histories', and the next call has the answer and the place that they give
 pub record FollowsHistories (K : Keys) (n : ℕ) (l : List (Ask K)) : Type 0 where
   pub table : TableStands (tableAfter K connections n l) (tableAfter K histories n l)
-  pub answer : (a : Ask K) → Readable (a .segment) → replyAfter K connections n l a .answer ≡ replyAfter K histories n l a .answer
-  pub place : (a : Ask K) → Readable (a .segment) → replyAfter K connections n l a .place ≡ replyAfter K histories n l a .place
+  pub answer : (a : Ask K) → Placeable (a .segment) → replyAfter K connections n l a .answer ≡ replyAfter K histories n l a .answer
+  pub place : (a : Ask K) → Placeable (a .segment) → replyAfter K connections n l a .place ≡ replyAfter K histories n l a .place
 
 -- from the fresh table of any number of places, for every list of calls
 abbrev pub Demand2 : Keys → Type 0
-Demand2 K = (n : ℕ) (l : List (Ask K)) → AllReadable l → FollowsHistories K n l
+Demand2 K = (n : ℕ) (l : List (Ask K)) → AllPlaceable l → FollowsHistories K n l
 
 -- And of a machine
 

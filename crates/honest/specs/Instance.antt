@@ -1,7 +1,7 @@
 -- The filter itself as a machine.
 use Prim.Native.Nat.{ℕ, _≤_}
 use lib.ListN.{replicate}
-use Rattle.history.specs.History.{Readable}
+use Rattle.history.specs.History.{Placeable}
 use Rattle.honest.specs.Keys.{Keys}
 use Rattle.honest.specs.Rows.{Table, Ask, freeEntry, filter}
 use Rattle.honest.specs.Filter.{connections, SoundTable}
@@ -11,7 +11,7 @@ use Rattle.honest.specs.Typed.{TypedTable}
 module _ (K : Keys) where
   -- a well-formed call: side 0 or 1, and a segment as the packet reader gives it
   abbrev pub ListCall : Type 0
-  ListCall = (a : Ask K) × (a .side ≤ 1) × Readable (a .segment)
+  ListCall = (a : Ask K) × (a .side ≤ 1) × Placeable (a .segment)
 
   abbrev pub listMachine : Machine K
   listMachine = record {

@@ -12,7 +12,7 @@ use Rattle.choice.specs.Choice.{_=ᵇ_, _≤ᵇ_}
 use Rattle.choice.proofs.Tests.{&&-true, false-true}
 use Rattle.serial.proofs.Ring.{wrap-small}
 use Rattle.segment.specs.Flags.{syn, SYN, SYN+ACK}
-use Rattle.history.specs.History.{LineSegment, onWire, stageOf, Readable}
+use Rattle.history.specs.History.{LineSegment, onWire, stageOf, Placeable}
 use Rattle.honest.specs.Rows.{Table}
 use Rattle.honest.specs.Filter.{connections}
 use Rattle.honest.specs.Honest.{opening, arrival, other, Event, send, call, delivery, Pair, told, said}
@@ -43,7 +43,7 @@ is-true : (b : Bool) → T b → b ≡ true
 is-true true _ = refl
 is-true false never = absurd never
 
-pub readable : (p : LineSegment) → T (wellFormed p) → Readable (onWire p)
+pub readable : (p : LineSegment) → T (wellFormed p) → Placeable (onWire p)
 readable p formed =
     let h = &&-true (p .window ≤ᵇ 65535) _ (is-true _ formed) in
     record {
