@@ -6,11 +6,11 @@ use Rattle.history.specs.History.{Placeable}
 use Rattle.honest.specs.Keys.{Keys}
 use Rattle.honest.specs.Rows.{Ask, Table, Reply, filter}
 use Rattle.honest.specs.Filter.{connections}
-use Rattle.honest.specs.Machine.{Reading, unreadable, asks, Machine, KeepsTo}
+use Rattle.honest.specs.Machine.{Reading, refused, asks, Machine, KeepsTo}
 use Rattle.honest.specs.Demand2.{fresh, tableAfter, AllPlaceable, stateAfter, withAsk, asked, MachineFollows, Demand2Of}
 use Rattle.honest.proofs.Demand2Lists.{demand2}
 
-module _ {K : Keys} (M : Machine K) (Sound : M .State → Type 0) (keeps : KeepsTo K M Sound) (readable : (q : M .Call) (a : Ask K) → M .reads q ≡ asks a → Placeable (a .segment)) (s₀ : M .State) (sound : Sound s₀) (n : ℕ) (begins : M .view s₀ ≡ fresh K connections n) where
+module _ {K : Keys} (M : Machine K) (Sound : M .State → Type 0) (keeps : KeepsTo K M Sound) (s₀ : M .State) (sound : Sound s₀) (n : ℕ) (begins : M .view s₀ ≡ fresh K connections n) where
   stays-sound : (l : List (M .Call)) → Sound (stateAfter M s₀ l)
   unfolding stateAfter
   stays-sound [] = sound
@@ -18,8 +18,8 @@ module _ {K : Keys} (M : Machine K) (Sound : M .State → Type 0) (keeps : Keeps
 
   with-ask : (q : M .Call) (r : Reading (Ask K)) (l : List (Ask K)) → M .reads q ≡ r → AllPlaceable l → AllPlaceable (withAsk r l)
   unfolding AllPlaceable
-  with-ask q unreadable l e before = before
-  with-ask q (asks a) l e before = (readable q a e, before)
+  with-ask q (refused m p) l e before = before
+  with-ask q (asks a) l e before = (keeps .well-formed q a e, before)
 
   all-readable : (l : List (M .Call)) → AllPlaceable (asked M l)
   unfolding asked AllPlaceable
@@ -29,7 +29,8 @@ module _ {K : Keys} (M : Machine K) (Sound : M .State → Type 0) (keeps : Keeps
   -- one call more
   view-next : (s : M .State) (q : M .Call) (r : Reading (Ask K)) (l : List (Ask K)) → Sound s → M .reads q ≡ r → M .view s ≡ tableAfter K connections n l → M .view (M .run s q .next) ≡ tableAfter K connections n (withAsk r l)
   unfolding tableAfter
-  view-next s q unreadable l sound-s e before = ap (M .view) (keeps .blocked-keeps s q (keeps .unreadable-blocked s q e)) ∙ before
+  view-next s q (refused m p) l sound-s e before =
+      ap (M .view) (keeps .blocked-keeps s q (λ zero-answer. keeps .refusal-blocks q m p e (sym (keeps .refusal-answered s q m p sound-s e) ∙ zero-answer))) ∙ before
   view-next s q (asks a) l sound-s e before =
       keeps .left s q a sound-s e ∙ ap (λ (t : Table K connections). filter K connections t a .table) before
 
@@ -43,9 +44,11 @@ module _ {K : Keys} (M : Machine K) (Sound : M .State → Type 0) (keeps : Keeps
       let follows = demand2 K n (asked M l) (all-readable l) in
       record {
         table = rw (view-after l) (follows .table);
-        answer = λ q a e. keeps .answered (stateAfter M s₀ l) q a (stays-sound l) e ∙ ap (λ (t : Table K connections). filter K connections t a .answer) (view-after l) ∙ follows .answer a (readable q a e);
-        place = λ q a e. keeps .placed (stateAfter M s₀ l) q a (stays-sound l) e ∙ ap (λ (t : Table K connections). filter K connections t a .place) (view-after l) ∙ follows .place a (readable q a e);
+        answer = λ q a e. keeps .answered (stateAfter M s₀ l) q a (stays-sound l) e ∙ ap (λ (t : Table K connections). filter K connections t a .answer) (view-after l) ∙ follows .answer a (keeps .well-formed q a e);
+        place = λ q a e. keeps .placed (stateAfter M s₀ l) q a (stays-sound l) e ∙ ap (λ (t : Table K connections). filter K connections t a .place) (view-after l) ∙ follows .place a (keeps .well-formed q a e);
+        refusal-answer = λ q m p e. keeps .refusal-answered (stateAfter M s₀ l) q m p (stays-sound l) e;
+        refusal-place = λ q m p e. keeps .refusal-placed (stateAfter M s₀ l) q m p (stays-sound l) e;
       }
 
-pub demand2-of : {K : Keys} (M : Machine K) (Sound : M .State → Type 0) → KeepsTo K M Sound → ((q : M .Call) (a : Ask K) → M .reads q ≡ asks a → Placeable (a .segment)) → Demand2Of M Sound
-demand2-of M Sound keeps readable s₀ sound n begins = machine-follows M Sound keeps readable s₀ sound n begins
+pub demand2-of : {K : Keys} (M : Machine K) (Sound : M .State → Type 0) → KeepsTo K M Sound → Demand2Of M Sound
+demand2-of M Sound keeps s₀ sound n begins = machine-follows M Sound keeps s₀ sound n begins

@@ -23,7 +23,7 @@ use Rattle.history.proofs.Pass.{opened-unanswered, opened-holds, opener-begins}
 use Rattle.honest.specs.Keys.{Keys}
 use Rattle.honest.specs.Rows.{Entry, Table, Ask, Reply, freeEntry, clockUsed, search, senderOf, pass, entryAfter, byVerdict, matched, filter}
 use Rattle.honest.specs.Filter.{connections, SoundTable}
-use Rattle.honest.specs.Machine.{Said, Reading, unreadable, asks, Machine, KeepsTo}
+use Rattle.honest.specs.Machine.{Said, Reading, refused, asks, Machine, KeepsTo}
 use Rattle.honest.specs.Honest.{Label, opening, arrival, other, Event, send, call, delivery, Pair, sideOf, keyOf, Sent, receivedBy, answered, Honest, Told, clockIn, passes, nextClock, afterSegment, afterCall, told, said, Live, Is, Arrived, Passed, Arrives, Opening, Arrival, FairCall, Fair, Legal, NeverBlocked, Demand3}
 use Rattle.honest.proofs.Lists.{In}
 use Rattle.honest.proofs.Sends.{SentWith, sent-with, First, Later, Fact, FirstFacts, first-facts, Protocol, answered-in, protocol-sent, protocol-delivered, protocol-called, protocol-passed}
@@ -78,7 +78,7 @@ module _ {K : Keys} (M : Machine K) (Sound : M .State → Type 0) (keeps : Keeps
     asked e = by (M .reads q) refl
       where
         by : (r : Reading (Ask K)) → M .reads q ≡ r → Asked
-        by unreadable is = absurd (keeps .unreadable-blocked (t .state) q is (passed-0 e))
+        by (refused n p) is = absurd (keeps .refusal-blocks q n p is (sym (keeps .refusal-answered (t .state) q n p (kept .sound) is) ∙ passed-0 e))
         by (asks a) is = record {
           ask = a;
           read = is;

@@ -8,7 +8,7 @@ use Rattle.honest.specs.Keys.{Keys}
 use Rattle.honest.specs.Rows.{Bodies, Ask, Table, Reply, freeEntry, filter}
 use Rattle.honest.specs.Filter.{connections}
 use Rattle.honest.specs.Histories.{histories, Stands}
-use Rattle.honest.specs.Machine.{Reading, unreadable, asks, Machine}
+use Rattle.honest.specs.Machine.{Reading, refused, asks, Machine}
 
 module _ (K : Keys) (B : Bodies) (n : ℕ) where
   -- the fresh table: n free places
@@ -41,7 +41,7 @@ pub record FollowsHistories (K : Keys) (n : ℕ) (l : List (Ask K)) : Type 0 whe
   pub answer : (a : Ask K) → Placeable (a .segment) → replyAfter K connections n l a .answer ≡ replyAfter K histories n l a .answer
   pub place : (a : Ask K) → Placeable (a .segment) → replyAfter K connections n l a .place ≡ replyAfter K histories n l a .place
 
--- from the fresh table of any number of places, for every list of calls
+-- from the fresh table of any number of places, for every list of well-formed calls
 abbrev pub Demand2 : Keys → Type 0
 Demand2 K = (n : ℕ) (l : List (Ask K)) → AllPlaceable l → FollowsHistories K n l
 
@@ -49,7 +49,7 @@ Demand2 K = (n : ℕ) (l : List (Ask K)) → AllPlaceable l → FollowsHistories
 
 -- with a call, if it is well formed
 abbrev pub withAsk : {K : Keys} → Reading (Ask K) → List (Ask K) → List (Ask K)
-withAsk unreadable l = l
+withAsk (refused n p) l = l
 withAsk (asks a) l = a ∷ l
 
 -- a machine's well-formed calls, as the filter is asked
@@ -63,11 +63,14 @@ module _ {K : Keys} (M : Machine K) (s₀ : M .State) where
   stateAfter [] = s₀
   stateAfter (q ∷ l) = M .run (stateAfter l) q .next
 
-  -- after a list of calls the machine's table stands for the histories', and a next call that is well formed has their answer and place
+  -- after a list of calls the machine's table stands for the histories'; a next call that is well formed has their answer and place, and
+  -- any other those of its refusal
   pub record MachineFollows (n : ℕ) (l : List (M .Call)) : Type 0 where
     pub table : TableStands (M .view (stateAfter l)) (tableAfter K histories n (asked M l))
     pub answer : (q : M .Call) (a : Ask K) → M .reads q ≡ asks a → M .run (stateAfter l) q .answer ≡ replyAfter K histories n (asked M l) a .answer
     pub place : (q : M .Call) (a : Ask K) → M .reads q ≡ asks a → M .run (stateAfter l) q .place ≡ replyAfter K histories n (asked M l) a .place
+    pub refusal-answer : (q : M .Call) (m p : ℕ) → M .reads q ≡ refused m p → M .run (stateAfter l) q .answer ≡ m
+    pub refusal-place : (q : M .Call) (m p : ℕ) → M .reads q ≡ refused m p → M .run (stateAfter l) q .place ≡ p
 
 -- from every sound state that is a fresh table, for every list of calls
 abbrev pub Demand2Of : {K : Keys} (M : Machine K) → (M .State → Type 0) → Type 0

@@ -13,7 +13,7 @@ use Rattle.history.specs.History.{LineSegment, onWire, stageOf, Formed}
 use Rattle.honest.specs.Keys.{Keys}
 use Rattle.honest.specs.Rows.{Ask, search, nowhere}
 use Rattle.honest.specs.Filter.{connections}
-use Rattle.honest.specs.Machine.{Said, Reading, unreadable, asks, Machine, KeepsTo}
+use Rattle.honest.specs.Machine.{Said, Reading, refused, asks, Machine}
 
 -- Events
 
@@ -125,9 +125,9 @@ module _ {K : Keys} (M : Machine K) (s₀ : M .State) (P : Pair K) where
   abbrev pub Events : Type 0
   Events = List (Event (M .Call))
 
-  -- the clock given
+  -- the clock given; of a refused call it is of no account
   abbrev pub clockIn : Reading (Ask K) → ℕ
-  clockIn unreadable = 0
+  clockIn (refused n p) = 0
   clockIn (asks a) = a .clock
 
   -- what the calls tell

@@ -1,8 +1,9 @@
 -- A machine that answers calls, and what must be shown of it: that it keeps to the filter without bytes.
 use Prim.Native.Nat.{ℕ}
 use mathlib.Core.Path.{_≡_}
+use Rattle.history.specs.History.{Placeable}
 use Rattle.honest.specs.Keys.{Keys}
-use Rattle.honest.specs.Rows.{Table, Ask, filter}
+use Rattle.honest.specs.Rows.{Ask, Table, filter}
 use Rattle.honest.specs.Filter.{connections, SoundTable}
 
 -- what a machine says to a call, and the state that it leaves
@@ -11,11 +12,12 @@ pub record Said (State : Type 0) : Type 0 where
   pub place : ℕ
   pub next : State
 
--- what a call is to the filter: not well formed (answers 1, 2 and 5 to 10), or asked
+-- what a call is to the filter: refused before any connection is looked for (answers 1, 2 and 5 to 10), or asked
 pub data Reading (A : Type 0) : Type 0 where
-  unreadable : Reading A
+  refused : (answer place : ℕ) → Reading A
   asks : A → Reading A
 
+-- view and reads are part of what is claimed of a machine: the table that a state is, and what each call asks
 pub record Machine (K : Keys) : Type 1 where
   pub State : Type 0
   pub Call : Type 0
@@ -23,16 +25,21 @@ pub record Machine (K : Keys) : Type 1 where
   pub view : State → Table K connections
   pub reads : Call → Reading (Ask K)
 
--- each is one sentence of document 01
-pub record KeepsTo (K : Keys) (M : Machine K) (Sound : M .State → Type 0) : Type 0 where
-  -- a call that is not well formed has an answer other than 0
-  pub unreadable-blocked : (s : M .State) (q : M .Call) → M .reads q ≡ unreadable → M .run s q .answer ≡ 0 → ⊥
-  -- any other is answered, on a sound table, by rows 11 to 15 and 0
-  pub answered : (s : M .State) (q : M .Call) (a : Ask K) → Sound s → M .reads q ≡ asks a → M .run s q .answer ≡ filter K connections (M .view s) a .answer
-  pub placed : (s : M .State) (q : M .Call) (a : Ask K) → Sound s → M .reads q ≡ asks a → M .run s q .place ≡ filter K connections (M .view s) a .place
-  pub left : (s : M .State) (q : M .Call) (a : Ask K) → Sound s → M .reads q ≡ asks a → M .view (M .run s q .next) ≡ filter K connections (M .view s) a .table
-  -- every answer but a pass changes no byte of the table
-  pub blocked-keeps : (s : M .State) (q : M .Call) → (M .run s q .answer ≡ 0 → ⊥) → M .run s q .next ≡ s
-  -- a sound state is a sound table, and a pass leaves it sound
-  pub sound-table : (s : M .State) → Sound s → SoundTable K (M .view s)
-  pub sound-kept : (s : M .State) (q : M .Call) → Sound s → Sound (M .run s q .next)
+module _ (K : Keys) (M : Machine K) (Sound : M .State → Type 0) where
+  -- every state that calls lead to is sound; a table that isn't has answer 4
+  pub record KeepsTo : Type 0 where
+    -- a call that is not well formed has the answer and the place of its refusal, and that is no pass
+    pub refusal-answered : (s : M .State) (q : M .Call) (n p : ℕ) → Sound s → M .reads q ≡ refused n p → M .run s q .answer ≡ n
+    pub refusal-placed : (s : M .State) (q : M .Call) (n p : ℕ) → Sound s → M .reads q ≡ refused n p → M .run s q .place ≡ p
+    pub refusal-blocks : (q : M .Call) (n p : ℕ) → M .reads q ≡ refused n p → n ≡ 0 → ⊥
+    -- any other is answered by rows 11 to 15 and 0
+    pub answered : (s : M .State) (q : M .Call) (a : Ask K) → Sound s → M .reads q ≡ asks a → M .run s q .answer ≡ filter K connections (M .view s) a .answer
+    pub placed : (s : M .State) (q : M .Call) (a : Ask K) → Sound s → M .reads q ≡ asks a → M .run s q .place ≡ filter K connections (M .view s) a .place
+    pub left : (s : M .State) (q : M .Call) (a : Ask K) → Sound s → M .reads q ≡ asks a → M .view (M .run s q .next) ≡ filter K connections (M .view s) a .table
+    -- and brings a segment that a packet can carry
+    pub well-formed : (q : M .Call) (a : Ask K) → M .reads q ≡ asks a → Placeable (a .segment)
+    -- every answer but a pass changes no byte of the table
+    pub blocked-keeps : (s : M .State) (q : M .Call) → (M .run s q .answer ≡ 0 → ⊥) → M .run s q .next ≡ s
+    -- a sound state is a sound table, and every call leaves it sound
+    pub sound-table : (s : M .State) → Sound s → SoundTable K (M .view s)
+    pub sound-kept : (s : M .State) (q : M .Call) → Sound s → Sound (M .run s q .next)
