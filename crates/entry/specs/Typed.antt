@@ -1,0 +1,25 @@
+-- The bounds that the types of an entry's fields give.
+use Prim.Native.Nat.{_^_, _<_}
+use mathlib.Core.Path.{_≡_}
+use lib.ListN.{length}
+use Rattle.connection.specs.Ends.{sender}
+use Rattle.connection.specs.declared.End.{End}
+use Rattle.entry.specs.declared.Entry.{Entry}
+
+pub record TypedEnd (e : End) : Type 0 where
+  pub end : e .end .0 < 2 ^ 32
+  pub edge : e .edge .0 < 2 ^ 32
+  pub win : e .win .0 < 2 ^ 32
+
+pub record Typed (e : Entry) : Type 0 where
+  pub stage : e .connection .stage < 2 ^ 8
+  pub side : e .connection .side < 2 ^ 8
+  pub fins : e .connection .fins < 2 ^ 8
+  pub opener-address : e .opener .address < 2 ^ 32
+  pub answerer-address : e .answerer .address < 2 ^ 32
+  pub opener-port : e .opener .port < 2 ^ 16
+  pub answerer-port : e .answerer .port < 2 ^ 16
+  pub deadline : e .connection .deadline < 2 ^ 64
+  pub two-ends : length (e .connection .ends) ≡ 2
+  pub opener : TypedEnd (sender (e .connection .ends) 0)
+  pub answerer : TypedEnd (sender (e .connection .ends) 1)
