@@ -15,14 +15,15 @@ use Rattle.segment.specs.Flags.{ack}
 use Rattle.segment.specs.Readable.{Readable}
 use Rattle.segment.specs.declared.Segment.{Segment}
 use Rattle.connection.specs.Ranges.{ackRange}
-use Rattle.connection.specs.Decision.{verdictOn}
+use Rattle.connection.specs.Decision.{verdictOn, opened}
 use Rattle.connection.specs.declared.Connection.{Connection}
 use Rattle.connection.specs.declared.Verdict.the-variants.{Pass, SequenceMissed, AckMissed}
 use Rattle.history.specs.Numbers.{Numbers, boundsI-II, boundsIII-IV}
 use Rattle.history.specs.History.{LineSegment, numbersOf, stageOf, standsBy, judge, Holds, Placeable}
 use Rattle.history.proofs.Step.{Near, start-near, ack-near}
 use Rattle.history.proofs.Verdict.{Answered, spans}
-use Rattle.history.proofs.Demand2.{stands-nearest, wrap-stands, answered, judged}
+use Rattle.history.specs.Demand2.{Presented, Legal, connectionAfter, historyAfter, openingHistory, NoPlace, Uniqueness}
+use Rattle.history.proofs.Demand2.{stands-nearest, wrap-stands, Reached, unanswered, answered, judged, after-all, holds-first, reached-first}
 
 pub readable-placeable : (g : Segment) → Readable g → Placeable g
 readable-placeable g r = record { seq-fits = r .seq-fits; ack-fits = r .ack-fits; window-fits = r .window-fits; syn-alone = r .syn-alone }
@@ -117,3 +118,15 @@ module _ (c : Connection) (h : List LineSegment) (holds : Holds c h) (both-heard
         (λ answer. n .0 (m .0 (sym by-ack ∙ answer))),
         (λ none. by-ack ∙ m .1 (n .1 none)),
       )
+
+no-place : (c : Connection) (h : List LineSegment) → Holds c h → Reached h → (stageOf h ≡ 1 → ⊥) → (o : Presented) → Legal o → NoPlace c h o
+no-place c h holds (unanswered u turned) later o legal = absurd (later (u .stage))
+no-place c h holds (answered a turned) later o legal = record {
+  sequence = no-place-14 c h holds a turned (o .sender) (legal .sender-known) (o .segment) (legal .readable);
+  acknowledgement = no-place-15 c h holds a turned (o .sender) (legal .sender-known) (o .segment) (legal .readable);
+}
+
+pub uniqueness : Uniqueness
+uniqueness side g now placeable a-syn l legal no-reset later o next =
+    let k = after-all (opened side g now) (openingHistory g) (holds-first side g now placeable a-syn) (reached-first side g now placeable a-syn) l legal no-reset in
+    no-place (connectionAfter (opened side g now) l) (historyAfter (openingHistory g) l) (k .0) (k .1) later o next

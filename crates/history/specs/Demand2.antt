@@ -1,16 +1,20 @@
 -- Demand 2 for one connection: after any segments presented to it, its numbers and its next answer are the history's.
-use Prim.Native.Nat.{ℕ, _<_}
+use Prim.Native.Nat.{ℕ, _-_, _<_}
 use mathlib.Core.Path.{_≡_}
-use mathlib.Core.Bool.{Bool}
+use mathlib.Core.Bool.{Bool, true}
+use mathlib.Core.Logic.{_↔_}
 use mathlib.Core.List.{List, [], _∷_}
 use Rattle.choice.specs.Choice.{if_then_else_, _=ᵇ_}
-use Rattle.segment.specs.Flags.{rst, SYN}
+use Rattle.serial.specs.Ring.{wrap}
+use Rattle.segment.specs.Flags.{rst, ack, SYN}
 use Rattle.segment.specs.declared.Segment.{Segment}
 use Rattle.connection.specs.Decision.{verdictOn, verdictNumber, free, opened, passed}
 use Rattle.connection.specs.declared.Connection.{Connection}
 use Rattle.connection.specs.declared.Verdict.{Verdict}
-use Rattle.connection.specs.declared.Verdict.the-variants.{Pass}
-use Rattle.history.specs.History.{LineSegment, placed, judge, Holds, Placeable}
+use Rattle.connection.specs.declared.Verdict.the-variants.{Pass, SequenceMissed, AckMissed}
+use Rattle.connection.specs.Ranges.{ackRange}
+use Rattle.history.specs.Numbers.{boundsI-II, boundsIII-IV}
+use Rattle.history.specs.History.{LineSegment, numbersOf, stageOf, placed, judge, Holds, Placeable}
 
 -- a segment presented to a connection: of its opener (0) or its answerer (1), at a clock used
 pub record Presented : Type 0 where
@@ -81,3 +85,26 @@ Demand2 =
     (l : List Presented) → AllLegal l → NoReset (openingHistory g) l →
     (o : Presented) → Legal o →
     Agree (connectionAfter (opened side g now) l) (historyAfter (openingHistory g) l) o
+
+-- Where the bounds are met the place on the line is unique, so the answers speak of all places with the segment's 32 bits
+
+-- o's octets from S on meet bounds I and II; an acknowledgement of A meets III and IV
+abbrev pub sequenceMetAt : List LineSegment → Presented → ℕ → Bool
+sequenceMetAt h o S = boundsI-II (numbersOf (o .sender) h) (numbersOf (1 - o .sender) h) S (o .segment .octets .0)
+
+abbrev pub ackMetAt : List LineSegment → Presented → ℕ → Bool
+ackMetAt h o A = boundsIII-IV ackRange (numbersOf (1 - o .sender) h) A
+
+pub record NoPlace (c : Connection) (h : List LineSegment) (o : Presented) : Type 0 where
+  -- 14 exactly where no such place meets I and II
+  pub sequence : (answerTo c o ≡ SequenceMissed) ↔ ((S : ℕ) → wrap S ≡ o .segment .seq .0 → sequenceMetAt h o S ≡ true → ⊥)
+  -- with ACK, and where one does: 15 exactly where no such acknowledgement meets III and IV
+  pub acknowledgement : ack (o .segment .flags) ≡ 1 → (S : ℕ) → wrap S ≡ o .segment .seq .0 → sequenceMetAt h o S ≡ true → (answerTo c o ≡ AckMissed) ↔ ((A : ℕ) → wrap A ≡ o .segment .ack .0 → ackMetAt h o A ≡ true → ⊥)
+
+-- from an opening SYN g on, as above, once the connection has been answered
+abbrev pub Uniqueness : Type 0
+Uniqueness =
+    (side : ℕ) (g : Segment) (now : ℕ) → Placeable g → g .flags ≡ SYN →
+    (l : List Presented) → AllLegal l → NoReset (openingHistory g) l → (stageOf (historyAfter (openingHistory g) l) ≡ 1 → ⊥) →
+    (o : Presented) → Legal o →
+    NoPlace (connectionAfter (opened side g now) l) (historyAfter (openingHistory g) l) o

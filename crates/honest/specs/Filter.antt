@@ -21,6 +21,6 @@ connections = record {
   free = free;
 }
 
--- every entry is free or sound by the header clock
+-- every entry is free or sound by the header clock; what else document 01 asks, a clock under 2^48 and zero bytes, concerns the bytes
 abbrev pub SoundTable : (K : Keys) → Table K connections → Type 0
 SoundTable K t = (p : ℕ) → p < length (t .entries) → (getD (t .entries) p (freeEntry K connections) ≡ freeEntry K connections) ⊎ (soundConnection (t .clock) (getD (t .entries) p (freeEntry K connections) .connection) ≡ true)

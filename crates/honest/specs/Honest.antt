@@ -134,7 +134,7 @@ module _ {K : Keys} (M : Machine K) (s₀ : M .State) (P : Pair K) where
   pub record Told : Type 0 where
     -- the table that the last call left
     pub state : M .State
-    -- the opening's place
+    -- whether the opening has been, and its place
     pub opened : Bool
     pub place : ℕ
     -- the segments that passed on the opening's entry, newest first
@@ -150,7 +150,8 @@ module _ {K : Keys} (M : Machine K) (s₀ : M .State) (P : Pair K) where
   abbrev pub nextClock : Told → M .Call → ℕ
   nextClock t q = if passes t q then max (clockIn (M .reads q)) (t .passClock) else t .passClock
 
-  -- after a call with a segment p of the pair: where it passes, it has passed on the opening's entry
+  -- after a call with a segment p of the pair. Where it passes it counts as passed on the opening's entry: its place is not looked at,
+  -- which takes no list away, as the claim is that it is the opening's
   abbrev pub afterSegment : Told → M .Call → ℕ → LineSegment → Told
   afterSegment t q place p = record {
     state = M .run (t .state) q .next;
