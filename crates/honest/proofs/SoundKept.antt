@@ -113,7 +113,7 @@ module _ (c : Connection) (x : ℕ → End) (ends : TwoEnds c x) (g : Segment) (
 
 -- One entry
 
-later-sound : (clock now : ℕ) (c : Connection) → clock ≤ now → soundConnection clock c ≡ true → soundConnection now c ≡ true
+pub later-sound : (clock now : ℕ) (c : Connection) → clock ≤ now → soundConnection clock c ≡ true → soundConnection now c ≡ true
 later-sound clock now c later sound =
     let f = sound-facts clock c sound in
     facts-sound now c record {
