@@ -1,0 +1,4 @@
+pub mod Places
+pub mod Match
+pub mod Zeros
+pub mod Words

@@ -1,0 +1,262 @@
+-- Laws of an entry in whole words: the tests that the scan makes decide those of the definition.
+use Prim.Native.Nat.{ℕ, _+_, _*_, _/_, _%_, _^_, _≤_, _<_}
+use mathlib.Core.Path.{_≡_, refl, ap, sym, _∙_}
+use mathlib.Core.List.{List}
+use mathlib.Core.Bool.{Bool, true, false, _&&_, _||_, and-false}
+use mathlib.Core.Logic.{_⊎_, inl, inr, ⊎-elim}
+use native.Mathlib.Omega.{arith}
+use native.Mathlib.Nat.{add-zero}
+use lib.ListN.{getD}
+use borrow.Author.Tests.{lt-ltb, le-ltb, ltb-true, leb-true, eqb-true, le-leb, lt-leb, eq-eqb, ne-eqb}
+use Rattle.choice.specs.Choice.{_<ᵇ_, _≤ᵇ_, _=ᵇ_}
+use Rattle.choice.proofs.Choice.{if-=, if-=-not, if-≤, if-≤-not}
+use Rattle.choice.proofs.Tests.{lt-or-ge, &&-true}
+use Rattle.octets.specs.Digits.{number}
+use Rattle.octets.specs.BigEndian.{bigEndian}
+use Rattle.serial.specs.Serial.{seqMinus}
+use Rattle.connection.specs.Sound.{soundFins, soundEnd, soundUnanswered, soundConnection}
+use Rattle.connection.specs.Stages.{longestLife}
+use Rattle.connection.specs.declared.End.{End}
+use Rattle.entry.specs.Layout.{placeAt, endAt, entryAt, connectionAt}
+use Rattle.table.specs.Table.{zerosAt, freeAt, headerClock, soundAt, soundHeader, soundTable, allFrom}
+use Rattle.table.specs.Words.{littleEndian, FourOctets, soundMarks, soundMarksAt, soundWord, soundNumbers, soundInUse, soundEntry}
+use Rattle.table.proofs.Zeros.{and-assoc, both, zeros-part, zeros-4-number}
+
+-- A word's octets
+
+pub octets-of-word : (t : List ℕ) (at w : ℕ) → FourOctets t at → w ≡ littleEndian t at → (w % 256 ≡ getD t at 0) × (w / 256 % 256 ≡ getD t (at + 1) 0) × (w / 256 / 256 % 256 ≡ getD t (at + 2) 0) × (w / 256 / 256 / 256 ≡ getD t (at + 3) 0)
+octets-of-word t at w small is =
+    let p : w / 256 ≡ getD t (at + 1) 0 + getD t (at + 2) 0 * 256 + getD t (at + 3) 0 * 65536 = omega (arith, small) in
+    let q : w / 256 / 256 ≡ getD t (at + 2) 0 + getD t (at + 3) 0 * 256 = omega (arith, small) in
+    (omega (arith, small), omega (arith, small), omega (arith, small), omega (arith, small))
+
+bigEndian-4 : (t : List ℕ) (at : ℕ) → bigEndian 4 t at ≡ ((getD t at 0 * 256 + getD t (at + 1) 0) * 256 + getD t (at + 2) 0) * 256 + getD t (at + 3) 0
+unfolding bigEndian number
+bigEndian-4 t at = rw add-zero (omega arith)
+
+-- the octets of a word the other way round
+pub swapped-word : (t : List ℕ) (at w : ℕ) → FourOctets t at → w ≡ littleEndian t at → w % 256 * 16777216 + w / 256 % 256 * 65536 + w / 256 / 256 % 256 * 256 + w / 256 / 256 / 256 ≡ bigEndian 4 t at
+swapped-word t at w small is =
+    let q = octets-of-word t at w small is in rw (q .0, q .1, q .2, q .3, bigEndian-4) (omega arith)
+
+-- Stage, side, FIN bits and zero
+
+not-true-false : (t : Bool) → (t ≡ true → ⊥) → t ≡ false
+not-true-false true h = absurd (h refl)
+not-true-false false h = refl
+
+fins-to-3 : (stage fins : ℕ) → stage ≤ 3 → soundFins stage fins ≡ (fins =ᵇ 0)
+unfolding soundFins
+fins-to-3 stage fins h = if-≤ _ _ h
+
+fins-in-4 : (stage fins : ℕ) → stage ≡ 4 → soundFins stage fins ≡ (1 ≤ᵇ fins) && (fins ≤ᵇ 2)
+unfolding soundFins
+fins-in-4 stage fins h = let above : 3 < stage = omega arith in if-≤-not _ _ above ∙ if-= _ _ h
+
+fins-from-5 : (stage fins : ℕ) → 5 ≤ stage → soundFins stage fins ≡ (fins =ᵇ 3)
+unfolding soundFins
+fins-from-5 stage fins h =
+    let above : 3 < stage = omega arith in
+    let other : stage ≡ 4 → ⊥ = λ e. omega (arith, e) in
+    if-≤-not _ _ above ∙ if-=-not _ _ other
+
+abbrev Fins : ℕ → ℕ → Type 0
+Fins stage fins = ((stage ≤ 3) × (fins ≡ 0)) ⊎ (((stage ≡ 4) × (1 ≤ fins) × (fins ≤ 2)) ⊎ ((5 ≤ stage) × (fins ≡ 3)))
+
+fins-known : (stage fins : ℕ) → soundFins stage fins ≡ true → Fins stage fins
+fins-known stage fins e =
+    ⊎-elim
+    (λ (h : stage < 4). let p : stage ≤ 3 = omega arith in inl (p, eqb-true _ _ (sym (fins-to-3 stage fins p) ∙ e)))
+    (λ (h : 4 ≤ stage).
+    ⊎-elim
+    (λ (g : stage < 5).
+    let p : stage ≡ 4 = omega arith in
+    let q = &&-true (1 ≤ᵇ fins) (fins ≤ᵇ 2) (sym (fins-in-4 stage fins p) ∙ e) in
+    inr (inl (p, leb-true 1 fins (q .0), leb-true fins 2 (q .1))))
+    (λ (g : 5 ≤ stage). inr (inr (g, eqb-true _ _ (sym (fins-from-5 stage fins g) ∙ e))))
+    (lt-or-ge stage 5))
+    (lt-or-ge stage 4)
+
+marks-known : (stage side fins blank : ℕ) → soundMarks stage side fins blank ≡ true → (1 ≤ stage) × (stage ≤ 5) × (side ≤ 1) × (blank ≡ 0) × Fins stage fins
+unfolding soundMarks
+marks-known stage side fins blank e =
+    let a = &&-true (1 ≤ᵇ stage) _ e in
+    let b = &&-true (stage ≤ᵇ 5) _ (a .1) in
+    let c = &&-true (side ≤ᵇ 1) _ (b .1) in
+    let d = &&-true (soundFins stage fins) (blank =ᵇ 0) (c .1) in
+    (leb-true 1 stage (a .0), leb-true stage 5 (b .0), leb-true side 1 (c .0), eqb-true blank 0 (d .1), fins-known stage fins (d .0))
+
+marks-by : (stage side fins blank : ℕ) → 1 ≤ stage → stage ≤ 5 → side ≤ 1 → blank ≡ 0 → soundFins stage fins ≡ true → soundMarks stage side fins blank ≡ true
+unfolding soundMarks
+marks-by stage side fins blank a b c d e = simp (le-leb 1 stage a, le-leb stage 5 b, le-leb side 1 c, eq-eqb blank 0 d, e)
+
+marks-to-3 : (stage side fins blank : ℕ) → 1 ≤ stage → stage ≤ 3 → side ≤ 1 → blank ≡ 0 → fins ≡ 0 → soundMarks stage side fins blank ≡ true
+marks-to-3 stage side fins blank a b c d e =
+    marks-by stage side fins blank a (omega arith) c d (fins-to-3 stage fins b ∙ eq-eqb fins 0 e)
+
+pub marks-in-4 : (stage side fins blank : ℕ) → stage ≡ 4 → side ≤ 1 → blank ≡ 0 → 1 ≤ fins → fins ≤ 2 → soundMarks stage side fins blank ≡ true
+marks-in-4 stage side fins blank a c d e f =
+    marks-by stage side fins blank (omega arith) (omega arith) c d (fins-in-4 stage fins a ∙ both _ _ (le-leb 1 fins e) (le-leb fins 2 f))
+
+pub marks-in-5 : (stage side fins blank : ℕ) → stage ≡ 5 → side ≤ 1 → blank ≡ 0 → fins ≡ 3 → soundMarks stage side fins blank ≡ true
+marks-in-5 stage side fins blank a c d e =
+    marks-by stage side fins blank (omega arith) (omega arith) c d (fins-from-5 stage fins (omega arith) ∙ eq-eqb fins 3 e)
+
+marks-of-none : (stage side fins blank : ℕ) → stage ≡ 0 → soundMarks stage side fins blank ≡ false
+unfolding soundMarks
+marks-of-none stage side fins blank e = simp (lt-leb 1 stage (omega arith))
+
+-- the word without the side's bit
+pub word-without-side : (w : ℕ) → w % 256 + w / 512 * 512 ≡ w % 256 + w / 256 % 256 / 2 * 512 + (w / 256 / 256 % 256 + w / 256 / 256 / 256 * 256) * 65536
+word-without-side w = omega arith
+
+module _ (stage side fins blank k : ℕ) (is : k ≡ stage + side / 2 * 512 + (fins + blank * 256) * 65536) where
+  pub marks-of-1-to-3 : stage < 256 → side < 256 → fins < 256 → 1 ≤ k → k ≤ 3 → soundMarks stage side fins blank ≡ true
+  marks-of-1-to-3 a b c h g = marks-to-3 stage side fins blank (omega arith) (omega arith) (omega arith) (omega arith) (omega arith)
+
+  pub marks-of-no-other : (1 ≤ k → k ≤ 3 → ⊥) → (k ≡ 65540 → ⊥) → (k ≡ 131076 → ⊥) → (k ≡ 196613 → ⊥) → soundMarks stage side fins blank ≡ false
+  marks-of-no-other h a b c =
+      not-true-false _ (λ e.
+      let o = marks-known stage side fins blank e in
+      ⊎-elim (λ (x : (stage ≤ 3) × (fins ≡ 0)). h (omega arith) (omega arith))
+      (λ (y : ((stage ≡ 4) × (1 ≤ fins) × (fins ≤ 2)) ⊎ ((5 ≤ stage) × (fins ≡ 3))).
+      ⊎-elim (λ (x : (stage ≡ 4) × (1 ≤ fins) × (fins ≤ 2)). omega arith) (λ (x : (5 ≤ stage) × (fins ≡ 3)). omega arith) y) (o .4))
+
+-- The entry
+
+and-true : (t : Bool) → t && true ≡ t
+and-true true = refl
+and-true false = refl
+
+or-false : (t : Bool) → t || false ≡ t
+or-false true = refl
+or-false false = refl
+
+-- the order in which the definition asks, and the scan's
+regroup : (z zs s s' d f l o a u : Bool) → z && (zs && (s && (s' && (d && (f && (l && (o && (a && u)))))))) ≡ (s && (s' && (d && (f && z)))) && ((l && (o && (a && zs))) && u)
+regroup false zs s s' d f l o a u = simp and-false
+regroup true false s s' d f l o a u = simp and-false
+regroup true true s s' d f l o a u = simp (and-true, and-assoc)
+
+in-use-by-parts : (t : List ℕ) (clock at : ℕ) → soundInUse t clock at ≡ (soundMarksAt t at && (soundNumbers t clock at (endAt t (at + 24)) (endAt t (at + 36)) && soundUnanswered (getD t at 0) (endAt t (at + 24)) (endAt t (at + 36))))
+unfolding soundInUse soundConnection entryAt connectionAt soundMarks soundNumbers
+in-use-by-parts t clock at =
+    regroup (getD t (at + 3) 0 =ᵇ 0) (zerosAt t (at + 48) 16) (1 ≤ᵇ getD t at 0) (getD t at 0 ≤ᵇ 5) (getD t (at + 1) 0 ≤ᵇ 1)
+    (soundFins (getD t at 0) (getD t (at + 2) 0)) (bigEndian 8 t (at + 16) ≤ᵇ clock + longestLife)
+    (soundEnd (endAt t (at + 24))) (soundEnd (endAt t (at + 36)))
+    (soundUnanswered (getD t at 0) (endAt t (at + 24)) (endAt t (at + 36)))
+
+answered : (stage : ℕ) (o a : End) → (stage ≡ 1 → ⊥) → soundUnanswered stage o a ≡ true
+unfolding soundUnanswered
+answered stage o a h = if-=-not _ _ h
+
+module _ (t : List ℕ) (clock at : ℕ) where
+  -- an entry whose first word is zero can only be free
+  pub entry-of-no-word : littleEndian t at ≡ 0 → soundEntry t clock at ≡ zerosAt t at 64
+  unfolding soundEntry
+  entry-of-no-word h =
+      let out : soundInUse t clock at ≡ false = in-use-by-parts t clock at ∙ rw (marks-of-none (getD t at 0) _ _ _ (omega arith)) in
+      rw out (or-false (zerosAt t at 64))
+
+  -- any other is in use
+  pub entry-of-word : (littleEndian t at ≡ 0 → ⊥) → soundEntry t clock at ≡ (soundMarksAt t at && (soundNumbers t clock at (endAt t (at + 24)) (endAt t (at + 36)) && soundUnanswered (getD t at 0) (endAt t (at + 24)) (endAt t (at + 36))))
+  unfolding soundEntry
+  entry-of-word h =
+      rw (not-true-false (zerosAt t at 64) (λ e. h (zeros-4-number t at (zeros-part t 4 60 at e .0)))) (in-use-by-parts t clock at)
+
+-- the same by the first word as one number, and by the two records as they were read
+module _ (t : List ℕ) (clock at w : ℕ) (small : FourOctets t at) (is : w ≡ littleEndian t at) (some : w ≡ 0 → ⊥) where
+  pub entry-not-by-word : soundWord w ≡ false → soundEntry t clock at ≡ false
+  entry-not-by-word e =
+      let q = octets-of-word t at w small is in
+      let no : soundMarksAt t at ≡ false = rw (q .0, q .1, q .2, q .3) at e in
+      entry-of-word t clock at (λ z. some (is ∙ z)) ∙ rw no
+
+  module _ (opener answerer : End) (o : opener ≡ endAt t (at + 24)) (a : answerer ≡ endAt t (at + 36)) where
+    entry-by-word : soundEntry t clock at ≡ (soundWord w && (soundNumbers t clock at opener answerer && soundUnanswered (w % 256) opener answerer))
+    entry-by-word =
+        let q = octets-of-word t at w small is in
+        rw (q .0, q .1, q .2, q .3, o, a) (entry-of-word t clock at (λ e. some (is ∙ e)))
+
+    pub entry-not-by-numbers : soundNumbers t clock at opener answerer ≡ false → soundEntry t clock at ≡ false
+    entry-not-by-numbers e = entry-by-word ∙ rw e (and-false (soundWord w))
+
+    module _ (word : soundWord w ≡ true) (numbers : soundNumbers t clock at opener answerer ≡ true) where
+      pub entry-unanswered : w % 256 ≡ 1 → soundEntry t clock at ≡ soundUnanswered 1 opener answerer
+      entry-unanswered stage = entry-by-word ∙ rw (word, numbers, stage)
+
+      pub entry-answered : (w % 256 ≡ 1 → ⊥) → soundEntry t clock at ≡ true
+      entry-answered stage = entry-by-word ∙ rw (word, numbers) (answered (w % 256) opener answerer stage)
+
+-- Its numbers
+
+pub end-by : (e : End) → 1 ≤ e .win .0 → e .win .0 ≤ 65535 → seqMinus (e .edge) (e .end) .0 ≤ 65535 → soundEnd e ≡ true
+unfolding soundEnd
+end-by e a b c = both _ _ (le-leb _ _ a) (both _ _ (le-leb _ _ b) (le-leb _ _ c))
+
+pub end-known : (e : End) → soundEnd e ≡ true → (1 ≤ e .win .0) × (e .win .0 ≤ 65535) × (seqMinus (e .edge) (e .end) .0 ≤ 65535)
+unfolding soundEnd
+end-known e h =
+    let p = &&-true (1 ≤ᵇ e .win .0) _ h in
+    let q = &&-true (e .win .0 ≤ᵇ 65535) _ (p .1) in
+    (leb-true 1 _ (p .0), leb-true _ 65535 (q .0), leb-true _ 65535 (q .1))
+
+module _ (t : List ℕ) (clock at : ℕ) (opener answerer : End) where
+  pub numbers-by : bigEndian 8 t (at + 16) ≤ clock + longestLife → soundEnd opener ≡ true → soundEnd answerer ≡ true → zerosAt t (at + 48) 16 ≡ true → soundNumbers t clock at opener answerer ≡ true
+  unfolding soundNumbers
+  numbers-by a b c d = rw (le-leb _ _ a, b, c, d)
+
+  pub numbers-known : soundNumbers t clock at opener answerer ≡ true → (bigEndian 8 t (at + 16) ≤ clock + longestLife) × (soundEnd opener ≡ true) × (soundEnd answerer ≡ true) × (zerosAt t (at + 48) 16 ≡ true)
+  unfolding soundNumbers
+  numbers-known h =
+      let p = &&-true (bigEndian 8 t (at + 16) ≤ᵇ clock + longestLife) _ h in
+      let q = &&-true (soundEnd opener) _ (p .1) in
+      let r = &&-true (soundEnd answerer) (zerosAt t (at + 48) 16) (q .1) in
+      (leb-true _ _ (p .0), q .0, r .0, r .1)
+
+-- Stage 1
+
+module _ (o a : End) where
+  unanswered-1 : soundUnanswered 1 o a ≡ ((o .edge .0 =ᵇ o .end .0) && ((a .end .0 =ᵇ 0) && ((a .edge .0 =ᵇ 0) && (a .win .0 =ᵇ 1))))
+  unfolding soundUnanswered
+  unanswered-1 = if-= {a = 1} {b = 1} _ true refl
+
+  pub unanswered-not-by-edge : (o .edge .0 ≡ o .end .0 → ⊥) → soundUnanswered 1 o a ≡ false
+  unanswered-not-by-edge h = unanswered-1 ∙ rw (ne-eqb _ _ h)
+
+  pub unanswered-not-by-other-end : (a .end .0 ≡ 0 → ⊥) → soundUnanswered 1 o a ≡ false
+  unanswered-not-by-other-end h = unanswered-1 ∙ rw (ne-eqb _ _ h) (and-false (o .edge .0 =ᵇ o .end .0))
+
+  pub unanswered-not-by-other-edge : (a .edge .0 ≡ 0 → ⊥) → soundUnanswered 1 o a ≡ false
+  unanswered-not-by-other-edge h = unanswered-1 ∙ simp (ne-eqb (a .edge .0) 0 h, and-false)
+
+  pub unanswered-by-other-win : o .edge .0 ≡ o .end .0 → a .end .0 ≡ 0 → a .edge .0 ≡ 0 → soundUnanswered 1 o a ≡ (a .win .0 =ᵇ 1)
+  unanswered-by-other-win p q r = unanswered-1 ∙ rw (eq-eqb _ _ p, eq-eqb _ _ q, eq-eqb _ _ r)
+
+-- The table
+
+-- a place, by its entry's test with the header clock
+pub sound-at : (t : List ℕ) (clock p : ℕ) (r : Bool) → clock ≡ headerClock t → r ≡ soundEntry t clock (placeAt p) → soundAt t p ≡ r
+unfolding soundEntry soundInUse soundAt freeAt
+sound-at t clock p r is e = sym (e ∙ ap (λ (k : ℕ). soundEntry t k (placeAt p)) is)
+
+module _ (t : List ℕ) where
+  pub header-not-by-clock : 2 ^ 48 ≤ headerClock t → soundHeader t ≡ false
+  unfolding soundHeader
+  header-not-by-clock h = rw (le-ltb _ _ h)
+
+  pub header-by-rest : headerClock t < 2 ^ 48 → soundHeader t ≡ zerosAt t 8 56
+  unfolding soundHeader
+  header-by-rest h = rw (lt-ltb _ _ h)
+
+  pub header-clock-under : soundHeader t ≡ true → headerClock t < 2 ^ 48
+  unfolding soundHeader
+  header-clock-under h = ltb-true _ _ (&&-true (headerClock t <ᵇ 2 ^ 48) (zerosAt t 8 56) h .0)
+
+  pub table-not-by-header : (n : ℕ) → soundHeader t ≡ false → soundTable t n ≡ false
+  unfolding soundTable
+  table-not-by-header n h = rw h
+
+  pub table-by-places : (n : ℕ) → soundHeader t ≡ true → soundTable t n ≡ allFrom (soundAt t) 0 n
+  unfolding soundTable
+  table-by-places n h = rw h

@@ -1,0 +1,20 @@
+use mathlib.Core.Path.{_∙_}
+use native.Mathlib.Omega.{arith}
+use Rattle.table.proofs.Words.{swapped-word}
+use borrow.Author.Needs.{needs}
+use Rattle.table.proofs.big32.Statement.{statement}
+use Rattle.table.proofs.big32.Tie as tie
+
+little32-requires : tie.Need-little32-requires
+little32-requires c κs = search needs
+
+swapped-requires : tie.Need-swapped-requires
+swapped-requires c κs = search needs
+
+returns : tie.Need-returns
+returns c =
+    let a = c .before .before .before .args in
+    c .swapped .ensures ∙ swapped-word (a .table .now) (a .at) (c .before .little32 .result) (omega arith, omega arith, omega arith, omega arith) (omega arith)
+
+pub big32-spec : {M : Type 1} → statement M
+big32-spec = tie.close (tie.spec little32-requires swapped-requires returns)

@@ -1,0 +1,395 @@
+// The table of connections in lent bytes: its clock, whether it is sound, the search, and the place of an opening (document 01,
+// "The table").
+ghost use mathlib.Core.Path.{_≡_};
+ghost use mathlib.Core.Bool.{true};
+ghost use Prim.Native.Nat.{_+_, _-_, _*_, _/_, _%_, _^_, _≤_, _<_};
+ghost use lib.ListN.{length};
+ghost use Rattle.octets.specs.BigEndian.{bigEndian, octetsOf};
+ghost use Rattle.octets.specs.Overwrite.{overwrite};
+ghost use Rattle.connection.specs.Sound.{soundEnd, soundUnanswered};
+ghost use Rattle.entry.specs.Layout.{placeAt, endAt, entryAt};
+ghost use Rattle.table.specs.Table.{headerClock, zerosAt, soundHeader, soundTable, liveMatchAt, expiredAt, firstFrom, fromOpener, fromAnswerer};
+ghost use Rattle.table.specs.Words.{littleEndian, FourOctets, soundWord, soundNumbers, soundEntry};
+use connection::End;
+use entry::Endpoint;
+use entry::Entry;
+use octets::read16;
+use octets::read64;
+use octets::write64;
+use serial::OctetCount;
+use serial::SeqNum;
+
+// What a search over places gives.
+pub enum Found {
+    At(usize),
+    Nothing,
+}
+
+// Words. A sum with the first octet lowest is one load of the machine, and its octets the other way round one swap.
+
+// An octet as a wider number; a call, so that a read asks for its index alone.
+fn wide(x: u8) -> u32
+    ensures { λ r. ⌜ (r ≡ x) × (r < 256) ⌝ }
+{
+    x as u32
+}
+
+fn little32(table: &[u8], at: usize) -> u32
+    requires { ⌜ at + 4 ≤ length (now table) ⌝ }
+    ensures { λ r. ⌜ r ≡ littleEndian (now (table .entry)) at ⌝ }
+    ensures octets { λ r. ⌜ FourOctets (now (table .entry)) at ⌝ }
+{
+    wide(table[at])
+        + wide(table[at + 1]) * 256
+        + wide(table[at + 2]) * 65536
+        + wide(table[at + 3]) * 16777216
+}
+
+fn swapped(w: u32) -> u32
+    ensures { λ r. ⌜ r ≡ w % 256 * 16777216 + w / 256 % 256 * 65536 + w / 256 / 256 % 256 * 256 + w / 256 / 256 / 256 ⌝ }
+{
+    w % 256 * 16777216 + w / 256 % 256 * 65536 + w / 256 / 256 % 256 * 256 + w / 256 / 256 / 256
+}
+
+fn big32(table: &[u8], at: usize) -> u32
+    requires { ⌜ at + 4 ≤ length (now table) ⌝ }
+    ensures { λ r. ⌜ r ≡ bigEndian 4 (now (table .entry)) at ⌝ }
+{
+    swapped(little32(table, at))
+}
+
+fn big64(table: &[u8], at: usize) -> u64
+    requires { ⌜ at + 8 ≤ length (now table) ⌝ }
+    ensures { λ r. ⌜ r ≡ bigEndian 8 (now (table .entry)) at ⌝ }
+{
+    big32(table, at) as u64 * 4294967296 + big32(table, at + 4) as u64
+}
+
+// Several tests in one: above both numbers, and zero or under 65,536 where both are.
+fn either(a: u64, b: u64) -> u64
+    ensures { λ r. ⌜ (a ≤ r) × (b ≤ r) × (a < 65536 → b < 65536 → r < 65536) × (a ≡ 0 → b ≡ 0 → r ≡ 0) ⌝ }
+{
+    a | b
+}
+
+// Nought exactly where eight octets are zeros, where 16 are, where 64 are.
+fn any8(table: &[u8], at: usize) -> u64
+    requires { ⌜ at + 8 ≤ length (now table) ⌝ }
+    ensures { λ r. ⌜ (r ≡ 0 → zerosAt (now (table .entry)) at 8 ≡ true) × (zerosAt (now (table .entry)) at 8 ≡ true → r ≡ 0) ⌝ }
+{
+    little32(table, at) as u64 + little32(table, at + 4) as u64 * 4294967296
+}
+
+fn any16(table: &[u8], at: usize) -> u64
+    requires { ⌜ at + 16 ≤ length (now table) ⌝ }
+    ensures { λ r. ⌜ (r ≡ 0 → zerosAt (now (table .entry)) at 16 ≡ true) × (zerosAt (now (table .entry)) at 16 ≡ true → r ≡ 0) ⌝ }
+{
+    either(any8(table, at), any8(table, at + 8))
+}
+
+fn any64(table: &[u8], at: usize) -> u64
+    requires { ⌜ at + 64 ≤ length (now table) ⌝ }
+    ensures { λ r. ⌜ (r ≡ 0 → zerosAt (now (table .entry)) at 64 ≡ true) × (zerosAt (now (table .entry)) at 64 ≡ true → r ≡ 0) ⌝ }
+{
+    either(
+        either(any16(table, at), any16(table, at + 16)),
+        either(any16(table, at + 32), any16(table, at + 48)),
+    )
+}
+
+// The header
+
+// The header clock.
+pub fn clock(table: &[u8]) -> u64
+    requires { ⌜ 64 ≤ length (now table) ⌝ }
+    ensures { λ r. ⌜ r ≡ headerClock (now (table .entry)) ⌝ }
+{
+    read64(table, 0)
+}
+
+pub fn set_clock(table: &mut [u8], clock: u64)
+    requires { ⌜ 64 ≤ length (now table) ⌝ }
+    ensures { λ r. ⌜ now (table .exit) ≡ overwrite (now (table .entry)) 0 (octetsOf 8 clock) ⌝ }
+{
+    write64(table, 0, clock);
+}
+
+// The search
+
+// The side that the opener is not on.
+fn other_side(side: u8) -> u8
+    ensures { λ r. ⌜ r ≡ 1 - side ⌝ }
+{
+    if side == 0 {
+        return 1;
+    }
+    0
+}
+
+// Which end sent a segment that matches: the opener, or else the answerer.
+pub fn from_opener(entry: Entry, side: u8, from: Endpoint, to: Endpoint) -> bool
+    ensures { λ r. ⌜ r ≡ fromOpener entry side from to ⌝ }
+{
+    if side != entry.connection.side {
+        return false;
+    }
+    if from.address != entry.opener.address {
+        return false;
+    }
+    if from.port != entry.opener.port {
+        return false;
+    }
+    if to.address != entry.answerer.address {
+        return false;
+    }
+    to.port == entry.answerer.port
+}
+
+// The opener's way round, by the entry at an offset.
+fn is_from_opener(table: &[u8], at: usize, side: u8, from: Endpoint, to: Endpoint) -> bool
+    requires { ⌜ at + 64 ≤ length (now table) ⌝ }
+    ensures { λ r. ⌜ r ≡ fromOpener (entryAt (now (table .entry)) at) side from to ⌝ }
+{
+    if from.address != big32(table, at + 4) {
+        return false;
+    }
+    if to.address != big32(table, at + 8) {
+        return false;
+    }
+    if from.port != read16(table, at + 12) {
+        return false;
+    }
+    if to.port != read16(table, at + 14) {
+        return false;
+    }
+    side == table[at + 1]
+}
+
+// The answerer's way round.
+fn is_from_answerer(table: &[u8], at: usize, side: u8, from: Endpoint, to: Endpoint) -> bool
+    requires { ⌜ at + 64 ≤ length (now table) ⌝ }
+    ensures { λ r. ⌜ r ≡ fromAnswerer (entryAt (now (table .entry)) at) side from to ⌝ }
+{
+    if to.address != big32(table, at + 4) {
+        return false;
+    }
+    if from.address != big32(table, at + 8) {
+        return false;
+    }
+    if to.port != read16(table, at + 12) {
+        return false;
+    }
+    if from.port != read16(table, at + 14) {
+        return false;
+    }
+    side == other_side(table[at + 1])
+}
+
+// Live and a match; the deadline is read first.
+fn is_live_match(
+    table: &[u8],
+    place: usize,
+    clock: u64,
+    side: u8,
+    from: Endpoint,
+    to: Endpoint,
+) -> bool
+    requires { ⌜ placeAt (place + 1) ≤ length (now table) ⌝ }
+    ensures { λ r. ⌜ r ≡ liveMatchAt (now (table .entry)) clock side from to place ⌝ }
+{
+    let at = 64 + 64 * place;
+    if big64(table, at + 16) <= clock {
+        return false;
+    }
+    if is_from_opener(table, at, side, from, to) {
+        return true;
+    }
+    is_from_answerer(table, at, side, from, to)
+}
+
+// Free or expired: a free entry's deadline is 0.
+fn is_expired(table: &[u8], place: usize, clock: u64) -> bool
+    requires { ⌜ placeAt (place + 1) ≤ length (now table) ⌝ }
+    ensures { λ r. ⌜ r ≡ expiredAt (now (table .entry)) clock place ⌝ }
+{
+    let at = 64 + 64 * place;
+    big64(table, at + 16) <= clock
+}
+
+// The search takes the first live match from place 0 up.
+pub fn find(
+    table: &[u8],
+    places: usize,
+    clock: u64,
+    side: u8,
+    from: Endpoint,
+    to: Endpoint,
+) -> Found
+    requires { ⌜ placeAt places ≤ length (now table) ⌝ }
+    ensures { λ r. ⌜ r ≡ firstFrom (liveMatchAt (now (table .entry)) clock side from to) 0 places ⌝ }
+{
+    let mut place = 0;
+    let found = loop {
+        if places <= place {
+            break Found::Nothing;
+        }
+        if is_live_match(table, place, clock, side, from, to) {
+            break Found::At(place);
+        }
+        place += 1;
+    };
+    found
+}
+
+// An opening takes the first place that is free or expired.
+pub fn vacant(table: &[u8], places: usize, clock: u64) -> Found
+    requires { ⌜ placeAt places ≤ length (now table) ⌝ }
+    ensures { λ r. ⌜ r ≡ firstFrom (expiredAt (now (table .entry)) clock) 0 places ⌝ }
+{
+    let mut next = 0;
+    let found = loop {
+        if places <= next {
+            break Found::Nothing;
+        }
+        if is_expired(table, next, clock) {
+            break Found::At(next);
+        }
+        next += 1;
+    };
+    found
+}
+
+// Soundness
+
+// Stage, side, FIN bits and zero as one word; 1 to 3 without FIN bits are the usual ones.
+fn sound_word(w: u32) -> bool
+    ensures { λ r. ⌜ r ≡ soundWord w ⌝ }
+{
+    let k = w % 256 + w / 512 * 512;
+    if std::num::wrapping_sub_u32(k, 1) < 3 {
+        return true;
+    }
+    match k {
+        65540 => true,
+        131076 => true,
+        196613 => true,
+        _ => false,
+    }
+}
+
+// One end's record.
+fn end_at(table: &[u8], at: usize) -> End
+    requires { ⌜ at + 12 ≤ length (now table) ⌝ }
+    ensures { λ r. ⌜ r ≡ endAt (now (table .entry)) at ⌝ }
+{
+    End {
+        end: SeqNum(big32(table, at)),
+        edge: SeqNum(big32(table, at + 4)),
+        win: OctetCount(big32(table, at + 8)),
+    }
+}
+
+// Under 65,536 exactly where the record is sound: so are the window, the window less 1, and the edge less the end.
+fn odd_end(end: End) -> u64
+    ensures { λ r. ⌜ (r < 65536 → soundEnd end ≡ true) × (soundEnd end ≡ true → r < 65536) ⌝ }
+{
+    let ahead = end.edge.minus(end.end);
+    let win = end.win.0;
+    either(
+        ahead.0 as u64,
+        either(win as u64, std::num::wrapping_sub_u32(win, 1) as u64),
+    )
+}
+
+// Nought exactly where a deadline is no later than it may be.
+fn late(most: u64, deadline: u64) -> u64
+    ensures { λ r. ⌜ (r ≡ 0 → deadline ≤ most) × (deadline ≤ most → r ≡ 0) ⌝ }
+{
+    if most < deadline {
+        return 1;
+    }
+    0
+}
+
+// Deadline, both records and the last 16 zeros, by one test.
+fn sound_numbers(table: &[u8], clock: u64, at: usize, opener: End, answerer: End) -> bool
+    requires { ⌜ (at + 64 ≤ length (now table)) × (clock < 2 ^ 48) ⌝ }
+    ensures { λ r. ⌜ r ≡ soundNumbers (now (table .entry)) clock at opener answerer ⌝ }
+{
+    let odd = either(odd_end(opener), odd_end(answerer)) / 65536;
+    let beyond = late(clock + 432_000_000, big64(table, at + 16));
+    either(either(any16(table, at + 48), beyond), odd) == 0
+}
+
+// In stage 1 the opener's edge equals its end and the answerer has 0, 0, 1.
+fn sound_unanswered(opener: End, answerer: End) -> bool
+    ensures { λ r. ⌜ r ≡ soundUnanswered 1 opener answerer ⌝ }
+{
+    if opener.edge.0 != opener.end.0 {
+        return false;
+    }
+    if answerer.end.0 != 0 {
+        return false;
+    }
+    if answerer.edge.0 != 0 {
+        return false;
+    }
+    answerer.win.0 == 1
+}
+
+// The entry at an offset, by the header clock: free, or sound and in use.
+fn sound_entry(table: &[u8], clock: u64, at: usize) -> bool
+    requires { ⌜ (at + 64 ≤ length (now table)) × (clock < 2 ^ 48) ⌝ }
+    ensures { λ r. ⌜ r ≡ soundEntry (now (table .entry)) clock at ⌝ }
+{
+    let word = little32(table, at);
+    if word == 0 {
+        return any64(table, at) == 0;
+    }
+    if !sound_word(word) {
+        return false;
+    }
+    let opener = end_at(table, at + 24);
+    let answerer = end_at(table, at + 36);
+    if !sound_numbers(table, clock, at, opener, answerer) {
+        return false;
+    }
+    if word % 256 == 1 {
+        return sound_unanswered(opener, answerer);
+    }
+    true
+}
+
+// Header clock under 2^48 and the header's rest zero.
+fn sound_header(table: &[u8]) -> bool
+    requires { ⌜ 64 ≤ length (now table) ⌝ }
+    ensures { λ r. ⌜ r ≡ soundHeader (now (table .entry)) ⌝ }
+{
+    if 281_474_976_710_656 <= clock(table) {
+        return false;
+    }
+    either(
+        any8(table, 8),
+        either(any16(table, 16), either(any16(table, 32), any16(table, 48))),
+    )
+        == 0
+}
+
+// Whether the table is sound: its header, and every place.
+pub fn sound(table: &[u8], places: usize) -> bool
+    requires { ⌜ placeAt places ≤ length (now table) ⌝ }
+    ensures { λ r. ⌜ r ≡ soundTable (now (table .entry)) places ⌝ }
+{
+    if !sound_header(table) {
+        return false;
+    }
+    let header = clock(table);
+    let mut checked = 0;
+    while checked < places {
+        if !sound_entry(table, header, 64 + 64 * checked) {
+            return false;
+        }
+        checked += 1;
+    }
+    true
+}
