@@ -1,7 +1,11 @@
-//! A second, independent implementation of the packet reader, of the trace
-//! line reader and writer and of the decision on one connection, written from
-//! document 01 and RFC 791 and RFC 9293.
+//! A second, independent implementation of the packet filter: packet reader,
+//! trace line reader and writer, table, decision and trace program, written
+//! from document 01 and RFC 791 and RFC 9293, with a generator of traffic.
 
 pub mod connection;
+pub mod filter;
 pub mod packet;
+pub mod table;
 pub mod trace;
+pub mod trace_run;
+pub mod traffic;

@@ -4,8 +4,8 @@
 
 /// Side, space, 12 clock digits, space.
 const PREFIX: usize = 15;
-const LONGEST_PACKET: usize = 2048;
-const LONGEST_LINE: usize = PREFIX + 2 * LONGEST_PACKET;
+pub const LONGEST_PACKET: usize = 2048;
+pub const LONGEST_LINE: usize = PREFIX + 2 * LONGEST_PACKET;
 /// "clock is 2^48 ms or more" is refused.
 const CLOCK_LIMIT: u64 = 1 << 48;
 
@@ -14,13 +14,29 @@ const BAD_SIDE: u32 = 1;
 /// "clock is 2^48 ms or more"
 const BAD_CLOCK: u32 = 2;
 /// "line over 4,111 characters"
-const LINE_TOO_LONG: u32 = 21;
+pub const LINE_TOO_LONG: u32 = 21;
 /// "malformed, with the offset"
-const MALFORMED: u32 = 22;
+pub const MALFORMED: u32 = 22;
 /// "output too small"
 const OUTPUT_TOO_SMALL: u32 = 23;
 /// "packet empty or over 2,048"
 const BAD_PACKET_LENGTH: u32 = 24;
+
+/// "lower case only"
+const DIGITS: [u8; 16] = *b"0123456789abcdef";
+/// The value of every byte as a hex digit.
+const VALUES: [u8; 256] = values();
+const NO_DIGIT: u8 = 0xff;
+
+const fn values() -> [u8; 256] {
+    let mut values = [NO_DIGIT; 256];
+    let mut value = 0;
+    while value < DIGITS.len() {
+        values[DIGITS[value] as usize] = value as u8;
+        value += 1;
+    }
+    values
+}
 
 /// What reading a line gives, beside the packet bytes.
 #[derive(Clone, Copy, Debug, Default, PartialEq, Eq)]
@@ -71,7 +87,7 @@ pub fn read_line(line: &[u8], packet: &mut [u8]) -> LineRead {
         };
     }
     for (byte, pair) in packet.iter_mut().zip(pairs) {
-        *byte = number(pair) as u8;
+        *byte = value(pair[0]) << 4 | value(pair[1]);
     }
     LineRead {
         answer: 0,
@@ -100,28 +116,32 @@ pub fn write_line(side: u8, clock: u64, packet: &[u8], line: &mut [u8]) -> LineW
     if length > line.len() {
         return refused(OUTPUT_TOO_SMALL);
     }
-    let mut text = format!("{side} {clock:012x} ");
-    text.extend(packet.iter().map(|byte| format!("{byte:02x}")));
-    line[..length].copy_from_slice(text.as_bytes());
+    line[..PREFIX].copy_from_slice(format!("{side} {clock:012x} ").as_bytes());
+    for (pair, byte) in line[PREFIX..].chunks_exact_mut(2).zip(packet) {
+        pair[0] = DIGITS[usize::from(byte >> 4)];
+        pair[1] = DIGITS[usize::from(byte & 0x0f)];
+    }
     LineWrite { answer: 0, length }
 }
 
 /// "the offset of the first byte that no legal line has there after the bytes
 /// before it, or the length if the line stops early"
 fn first_fault(line: &[u8]) -> Option<usize> {
-    line.iter()
-        .enumerate()
-        .position(|(offset, &byte)| !legal_at(offset, byte))
+    let (prefix, packet) = line.split_at(line.len().min(PREFIX));
+    let in_prefix = (0..prefix.len()).find(|&offset| !legal_at(offset, prefix[offset]));
+    // Most of a line is here, so this search is kept plain.
+    let in_packet = || packet.iter().position(|&byte| value(byte) == NO_DIGIT);
+    in_prefix
+        .or_else(|| in_packet().map(|at| PREFIX + at))
         .or_else(|| stops_early(line.len()).then_some(line.len()))
 }
 
-/// Whether a legal line may have the byte at the offset. In a line that is not
-/// too long, this depends on the offset only.
+/// Whether a legal line may have the byte at the offset, before the packet.
 fn legal_at(offset: usize, byte: u8) -> bool {
     match offset {
         0 => byte == b'0' || byte == b'1',
         1 | 14 => byte == b' ',
-        _ => digit(byte).is_some(),
+        _ => value(byte) != NO_DIGIT,
     }
 }
 
@@ -130,13 +150,9 @@ fn stops_early(length: usize) -> bool {
     length < PREFIX + 2 || (length - PREFIX) % 2 == 1
 }
 
-/// "lower case only"
-fn digit(byte: u8) -> Option<u8> {
-    match byte {
-        b'0'..=b'9' => Some(byte - b'0'),
-        b'a'..=b'f' => Some(byte - b'a' + 10),
-        _ => None,
-    }
+/// The value of a hex digit.
+fn value(byte: u8) -> u8 {
+    VALUES[usize::from(byte)]
 }
 
 /// The number that hex digits write, highest first; the caller has checked
@@ -144,8 +160,7 @@ fn digit(byte: u8) -> Option<u8> {
 fn number(digits: &[u8]) -> u64 {
     digits
         .iter()
-        .filter_map(|&byte| digit(byte))
-        .fold(0, |number, digit| number * 16 + u64::from(digit))
+        .fold(0, |number, &byte| number * 16 + u64::from(value(byte)))
 }
 
 #[cfg(test)]

@@ -1,0 +1,222 @@
+//! The trace program (document 01, "Trace lines"): lines in, an answer for
+//! each and the total out.
+
+use crate::filter::{filter, NO_PLACE, PASSED};
+use crate::table::ENTRY;
+use crate::trace::{self, LineRead};
+use std::io::{self, Read, Write};
+
+/// "The program's table has 64 places"
+pub const PLACES: usize = 64;
+/// How much is read at once, and how much is collected before it is written.
+const PIECE: usize = 1 << 18;
+/// A line this long is over-long whatever follows.
+const CUT: usize = trace::LONGEST_LINE + 1;
+
+/// A run over lines, from a fresh table on.
+pub struct TraceRun {
+    table: [u8; ENTRY * (PLACES + 1)],
+    packet: [u8; trace::LONGEST_PACKET],
+    passed: u64,
+    lines: u64,
+}
+
+/// What a line gave: the answer, and the place or offset.
+#[derive(Clone, Copy, Debug, PartialEq, Eq)]
+pub struct LineAnswer {
+    pub answer: u32,
+    /// Nothing is printed as `-`.
+    pub number: Option<u32>,
+}
+
+impl Default for TraceRun {
+    /// "starts as 4,160 zero bytes"
+    fn default() -> TraceRun {
+        TraceRun {
+            table: [0; ENTRY * (PLACES + 1)],
+            packet: [0; trace::LONGEST_PACKET],
+            passed: 0,
+            lines: 0,
+        }
+    }
+}
+
+impl TraceRun {
+    /// Takes a line without its newline.
+    pub fn line(&mut self, line: &[u8]) -> LineAnswer {
+        self.lines += 1;
+        let read = trace::read_line(line, &mut self.packet);
+        // "A line refused by the reader isn't shown to the gate."
+        if read.answer != 0 {
+            return refused(&read);
+        }
+        let packet = &self.packet[..read.length];
+        let (answer, place) = filter(read.side, read.clock, &mut self.table, packet);
+        self.passed += u64::from(answer == PASSED);
+        LineAnswer {
+            answer,
+            number: (place != NO_PLACE).then_some(place),
+        }
+    }
+
+    /// The table as the last line left it.
+    pub fn table(&self) -> &[u8] {
+        &self.table
+    }
+
+    /// "The last line printed is `passed P of L`: P answers 0 among L lines,
+    /// refused ones counted in L."
+    pub fn total(&self) -> String {
+        format!("passed {} of {}\n", self.passed, self.lines)
+    }
+}
+
+/// "the offset for 22, `-` for 21"
+fn refused(read: &LineRead) -> LineAnswer {
+    LineAnswer {
+        answer: read.answer,
+        number: (read.answer == trace::MALFORMED).then_some(read.offset as u32),
+    }
+}
+
+impl LineAnswer {
+    /// "prints per line the answer, a space, and the place (`-` for 65,535)"
+    pub fn print(&self, output: &mut Vec<u8>) {
+        let printed = match self.number {
+            Some(number) => writeln!(output, "{} {number}", self.answer),
+            None => writeln!(output, "{} -", self.answer),
+        };
+        printed.expect("memory takes every byte");
+    }
+}
+
+/// The whole program: reads lines up to the end of the input and prints.
+pub fn run(input: &mut impl Read, output: &mut impl Write) -> io::Result<()> {
+    let mut run = TraceRun::default();
+    let mut printed = Vec::with_capacity(2 * PIECE);
+    // The start of a line whose newline has not come yet.
+    let mut begun: Vec<u8> = Vec::with_capacity(CUT);
+    let mut piece = vec![0; PIECE];
+    loop {
+        let length = match input.read(&mut piece) {
+            Ok(length) => length,
+            Err(error) if error.kind() == io::ErrorKind::Interrupted => continue,
+            Err(error) => return Err(error),
+        };
+        if length == 0 {
+            break;
+        }
+        for part in piece[..length].split_inclusive(|&byte| byte == b'\n') {
+            let Some(rest) = part.strip_suffix(b"\n") else {
+                extend_line(&mut begun, part);
+                continue;
+            };
+            let answer = if begun.is_empty() {
+                run.line(rest)
+            } else {
+                extend_line(&mut begun, rest);
+                run.line(&begun)
+            };
+            begun.clear();
+            answer.print(&mut printed);
+        }
+        if printed.len() >= PIECE {
+            output.write_all(&printed)?;
+            printed.clear();
+        }
+    }
+    // "A last line without a newline is a line if it has any byte"
+    if !begun.is_empty() {
+        run.line(&begun).print(&mut printed);
+    }
+    printed.extend(run.total().bytes());
+    output.write_all(&printed)?;
+    output.flush()
+}
+
+/// "An over-long line is skipped to its newline": bytes past the cut are
+/// dropped, as they no longer change what the line gives.
+fn extend_line(begun: &mut Vec<u8>, part: &[u8]) {
+    let room = CUT - begun.len();
+    begun.extend_from_slice(&part[..part.len().min(room)]);
+}
+
+#[cfg(test)]
+mod tests {
+    use super::*;
+
+    const EXAMPLE: &str = "\
+0 000000000000 4500002800000000400666ce0a0000010a000002040000500000006400000000500203e893440000
+1 000000000064 4500002800000000400666ce0a0000020a00000100500400000001f400000065501207d08d570000
+0 0000000000c8 4500002800000000400666ce0a0000010a0000020400005000000065000001f6501003e8913f0000
+";
+
+    /// Gives its bytes in pieces of a chosen length.
+    struct Pieces<'a> {
+        rest: &'a [u8],
+        length: usize,
+    }
+
+    impl Read for Pieces<'_> {
+        fn read(&mut self, buffer: &mut [u8]) -> io::Result<usize> {
+            let length = self.length.min(self.rest.len()).min(buffer.len());
+            let (piece, rest) = self.rest.split_at(length);
+            buffer[..length].copy_from_slice(piece);
+            self.rest = rest;
+            Ok(length)
+        }
+    }
+
+    /// What the program prints, the same for every length of pieces.
+    fn printed(input: &[u8]) -> String {
+        let outputs = [1, 2, 7, 4_111, 4_112, 4_113, usize::MAX].map(|length| {
+            let mut output = Vec::new();
+            let mut input = Pieces {
+                rest: input,
+                length,
+            };
+            run(&mut input, &mut output).expect("memory has no errors");
+            String::from_utf8(output).expect("the output is ASCII")
+        });
+        for output in &outputs {
+            assert_eq!(*output, outputs[0]);
+        }
+        outputs[0].clone()
+    }
+
+    #[test]
+    fn the_whole_example() {
+        let expected = "0 0\n0 0\n15 -\npassed 2 of 3\n";
+        assert_eq!(printed(EXAMPLE.as_bytes()), expected);
+        assert_eq!(printed(EXAMPLE.trim_end().as_bytes()), expected);
+    }
+
+    #[test]
+    fn empty_lines_and_the_last_one() {
+        assert_eq!(printed(b""), "passed 0 of 0\n");
+        assert_eq!(printed(b"\n"), "22 0\npassed 0 of 1\n");
+        assert_eq!(printed(b"\n\n"), "22 0\n22 0\npassed 0 of 2\n");
+        assert_eq!(printed(b"0"), "22 1\npassed 0 of 1\n");
+        assert_eq!(printed(b"0\n"), "22 1\npassed 0 of 1\n");
+        assert_eq!(printed(b"0\n\nx"), "22 1\n22 0\n22 0\npassed 0 of 3\n");
+        // A carriage return is no part of a legal line.
+        let example = EXAMPLE.lines().next().unwrap_or_default();
+        let returned = format!("{example}\r\n");
+        assert_eq!(printed(returned.as_bytes()), "22 95\npassed 0 of 1\n");
+    }
+
+    #[test]
+    fn over_long_lines() {
+        // The longest legal line: an IPv4 header that asks for more bytes.
+        let longest = format!("0 000000000000 {}", "45".repeat(2048));
+        assert_eq!(longest.len(), 4_111);
+        assert_eq!(printed(longest.as_bytes()), "5 -\npassed 0 of 1\n");
+        for more in [1, 2, 4_111, 4_112, 300_000] {
+            let input = format!("{longest}{}", "x".repeat(more));
+            assert_eq!(printed(input.as_bytes()), "21 -\npassed 0 of 1\n");
+            let between = format!("{input}\n{longest}\n{input}\n\n");
+            let expected = "21 -\n5 -\n21 -\n22 0\npassed 0 of 4\n";
+            assert_eq!(printed(between.as_bytes()), expected);
+        }
+    }
+}

@@ -1,0 +1,13 @@
+//! Random traffic for a comparison of two filters. The same seed gives the same
+//! bytes on every machine.
+
+mod calls;
+mod draft;
+mod honest;
+mod lines;
+mod random;
+mod tables;
+mod world;
+
+pub use calls::{calls, Call, Calls};
+pub use lines::{lines, Lines};

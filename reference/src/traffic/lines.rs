@@ -1,0 +1,157 @@
+//! Trace lines for the trace program: legal ones, and now and then one that
+//! its reader refuses.
+
+use super::draft::LONGEST_HEADERS;
+use super::random::Random;
+use super::world::World;
+use crate::trace::{write_line, LONGEST_LINE, LONGEST_PACKET};
+use crate::trace_run::PLACES;
+
+/// What a legal line holds beside both headers at their longest.
+const LONGEST_PAYLOAD: usize = LONGEST_PACKET - LONGEST_HEADERS - 20;
+/// Makes the numbers for the lines others than those for the packets.
+const LINES: u64 = 0x6c69_6e65_7321;
+
+/// The lines, each without its newline.
+pub struct Lines {
+    world: World,
+    random: Random,
+    left: usize,
+}
+
+/// As many lines as asked. The last one has a byte or more, so that it is a
+/// line with and without a newline.
+pub fn lines(seed: u64, count: usize) -> Lines {
+    Lines {
+        world: World::new(seed, PLACES, LONGEST_PAYLOAD),
+        random: Random::new(seed ^ LINES),
+        left: count,
+    }
+}
+
+impl Iterator for Lines {
+    type Item = Vec<u8>;
+
+    fn next(&mut self) -> Option<Vec<u8>> {
+        self.left = self.left.checked_sub(1)?;
+        let line = match self.random.below(1_000) {
+            0..=2 if self.left > 0 => Vec::new(),
+            3..=4 => self.over_long(),
+            5..=14 => self.malformed(),
+            _ => self.legal(),
+        };
+        Some(line)
+    }
+}
+
+impl Lines {
+    fn legal(&mut self) -> Vec<u8> {
+        let arrival = self.world.next_arrival();
+        let mut line = vec![0; LONGEST_LINE];
+        let written = write_line(arrival.side, arrival.clock, &arrival.packet, &mut line);
+        assert_eq!(written.answer, 0, "the world keeps to legal lines");
+        line.truncate(written.length);
+        line
+    }
+
+    /// A line like a legal one; the packet does not reach the filter, so the
+    /// world must not take it as seen.
+    fn like_legal(&mut self) -> Vec<u8> {
+        let side = self.random.below(2);
+        let clock = self.random.below(1 << 48);
+        let octets = self.random.between(1, 60);
+        let mut line = format!("{side} {clock:012x} ").into_bytes();
+        for _ in 0..2 * octets {
+            line.push(self.random.pick(b"0123456789abcdef"));
+        }
+        line
+    }
+
+    /// One character over, a few, or more than a reader takes at once.
+    fn over_long(&mut self) -> Vec<u8> {
+        let mut line = self.like_legal();
+        let over = match self.random.below(40) {
+            0 => self.random.between(60_000, 300_000),
+            1..=19 => self.random.between(1, 5_000),
+            _ => 1,
+        };
+        line.resize(LONGEST_LINE + over as usize, b'0');
+        line
+    }
+
+    fn malformed(&mut self) -> Vec<u8> {
+        let mut line = self.like_legal();
+        let at = self.random.index(line.len());
+        match self.random.below(8) {
+            // One byte changed; a newline would part the line, a digit may
+            // leave it legal.
+            0 => line[at] = self.random.pick(b"ABCDEFGgxyz /:`@_-+.\t\r\0\x7f\x80\xff"),
+            1 => line[self.random.index(16)] = self.random.pick(b"2 /:`gAF\xb0\x00"),
+            2 => line.truncate(at.max(1)),
+            // "an odd digit counts as early"
+            3 => line.push(b'0'),
+            4 => line.push(self.random.pick(b"\r ")),
+            5 => line.insert(at, self.random.pick(b" Ag\0")),
+            6 => {
+                line.remove(self.random.index(16));
+            }
+            _ => line.truncate(self.random.between(1, 17) as usize),
+        }
+        // What stayed legal would be shown to the filter.
+        if is_legal(&line) {
+            line.push(b'.');
+        }
+        line
+    }
+}
+
+fn is_legal(line: &[u8]) -> bool {
+    let mut packet = [0; LONGEST_PACKET];
+    crate::trace::read_line(line, &mut packet).answer == 0
+}
+
+#[cfg(test)]
+mod tests {
+    use super::*;
+    use crate::trace_run::{run, TraceRun};
+
+    #[test]
+    fn one_seed_one_text() {
+        let text = |seed| lines(seed, 500).collect::<Vec<_>>();
+        assert_eq!(text(3), text(3));
+        assert_ne!(text(3), text(4));
+        assert!(text(3).iter().all(|line| !line.contains(&b'\n')));
+    }
+
+    /// The program on the text gives what the lines give one by one, and leaves
+    /// the table that the packets were aimed at.
+    #[test]
+    fn the_program_and_the_lines_agree() {
+        let mut lines = lines(9, 3_000);
+        let mut line_by_line = TraceRun::default();
+        let mut text = Vec::new();
+        let mut expected = Vec::new();
+        while let Some(line) = lines.next() {
+            text.extend_from_slice(&line);
+            text.push(b'\n');
+            line_by_line.line(&line).print(&mut expected);
+            assert_eq!(line_by_line.table(), lines.world.table());
+        }
+        expected.extend(line_by_line.total().bytes());
+        let mut printed = Vec::new();
+        run(&mut text.as_slice(), &mut printed).expect("memory has no errors");
+        assert!(printed == expected);
+    }
+
+    #[test]
+    fn every_answer_occurs() {
+        let mut run = TraceRun::default();
+        let mut counts = [0; 25];
+        for line in lines(1, 40_000) {
+            counts[run.line(&line).answer as usize] += 1;
+        }
+        for answer in (5..=15).chain([0, 21, 22]) {
+            assert!(counts[answer] >= 20, "{answer}: {counts:?}");
+        }
+    }
+}

@@ -1,0 +1,551 @@
+//! Traffic over one table: honest connections, and between them probes at the
+//! bounds, spoilt packets, floods, strangers and resets. The table is kept as
+//! this library's filter leaves it, so that the next packets can be aimed.
+
+use super::draft::{spoil, Draft};
+use super::honest::Link;
+use super::random::Random;
+use crate::connection::{Connection, ANSWERER, OPENER};
+use crate::filter::{filter, PASSED};
+use crate::packet::{ACK, FIN, RST, SYN};
+use crate::table::{self, Entry, Names, CLOCK_LIMIT, ENTRY};
+
+/// "(T.end − a) mod 2^32 ≤ 66,000"
+const OLDEST_ACKNOWLEDGEMENT: u32 = 66_000;
+/// The most honest connections at a time.
+const MOST_LINKS: usize = 12;
+const DAY: u64 = 86_400_000;
+
+/// Side, clock and packet of a call.
+#[derive(Clone, Debug)]
+pub struct Arrival {
+    pub side: u8,
+    pub clock: u64,
+    pub packet: Vec<u8>,
+}
+
+pub struct World {
+    random: Random,
+    table: Vec<u8>,
+    clock: u64,
+    links: Vec<Link>,
+    /// SYNs left of a flood.
+    flood: usize,
+    /// The longest payload of a segment.
+    longest: usize,
+}
+
+impl World {
+    /// A fresh table of that many places.
+    pub fn new(seed: u64, places: usize, longest: usize) -> World {
+        let mut random = Random::new(seed);
+        let clock = if random.once_in(2) {
+            0
+        } else {
+            random.below(CLOCK_LIMIT / 2)
+        };
+        World {
+            random,
+            table: vec![0; ENTRY * (places + 1)],
+            clock,
+            links: Vec::new(),
+            flood: 0,
+            longest,
+        }
+    }
+
+    /// The table before the next call.
+    pub fn table(&self) -> &[u8] {
+        &self.table
+    }
+
+    /// The next call; the table is then as the call leaves it.
+    pub fn next_arrival(&mut self) -> Arrival {
+        self.advance_clock();
+        if self.flood == 0 && self.random.once_in(2_500) {
+            let places = table::places(&self.table);
+            self.flood = places + self.random.index(places + 1) + 2;
+        }
+        let other = if self.flood > 0 && !self.random.once_in(8) {
+            self.flood -= 1;
+            self.flood_arrival()
+        } else {
+            match self.random.below(1_000) {
+                0..=139 => self.bound_probe(),
+                140..=169 => self.stage_1_probe(),
+                170..=209 => self.spoilt(),
+                210..=259 => self.stranger(),
+                260..=269 => self.reset(),
+                270..=273 => self.expiry_probe(),
+                _ => None,
+            }
+        };
+        // What found nothing to aim at, or would spoil a sheltered connection,
+        // gives way to the honest ones.
+        other
+            .and_then(|arrival| self.offer(arrival))
+            .unwrap_or_else(|| self.honest())
+    }
+
+    /// Mostly by little; now and then by enough for lives to end.
+    fn advance_clock(&mut self) {
+        let step = match self.random.below(10_000) {
+            0 => self.random.below(6 * DAY),
+            1..=2 => 3_600_000,
+            3..=50 => self.random.below(60_000),
+            51..=1_000 => self.random.below(2_000),
+            _ => self.random.below(100),
+        };
+        self.clock = (self.clock + step).min(CLOCK_LIMIT - 1);
+    }
+
+    /// The clock of a call: the world's, or one set back.
+    fn call_clock(&mut self) -> u64 {
+        match self.random.below(40) {
+            0 => self.random.between(0, self.clock),
+            1 => self.clock.saturating_sub(self.random.below(100_000)),
+            2 => self.random.pick(&[0, self.clock.saturating_sub(1)]),
+            _ => self.clock,
+        }
+    }
+
+    /// Runs the filter on the kept table.
+    fn call(&mut self, arrival: &Arrival) -> (u32, u32) {
+        let result = filter(
+            arrival.side,
+            arrival.clock,
+            &mut self.table,
+            &arrival.packet,
+        );
+        self.clock = self.clock.max(table::clock(&self.table));
+        result
+    }
+
+    /// Makes a call that no honest end made, unless it would pass on the entry
+    /// of a sheltered connection.
+    fn offer(&mut self, arrival: Arrival) -> Option<Arrival> {
+        let before = self.table.clone();
+        let clock = self.clock;
+        let (answer, place) = self.call(&arrival);
+        if answer != PASSED {
+            return Some(arrival);
+        }
+        // The clock is not to stop at its end for the rest of the trace.
+        let at_the_end = arrival.clock == CLOCK_LIMIT - 1;
+        let spoils = |link: &Link| {
+            link.sheltered && link.place == Some(place) && is_live(&before, link, arrival.clock)
+        };
+        if at_the_end || self.links.iter().any(spoils) {
+            self.table = before;
+            self.clock = clock;
+            return None;
+        }
+        // A sheltered connection whose place was taken is over.
+        self.links
+            .retain(|link| !link.sheltered || link.place != Some(place));
+        Some(arrival)
+    }
+
+    /// An arrival of an honest end's segment.
+    fn honest(&mut self) -> Arrival {
+        let at = self.choose_link();
+        let mut link = self.links.swap_remove(at);
+        let (sender, sending) = link.next_arrival(self.longest, &mut self.random);
+        let draft = link.draft(sender, &sending);
+        let arrival = Arrival {
+            side: sender as u8,
+            clock: self.honest_clock(&link),
+            packet: draft.packet(&mut self.random),
+        };
+        let was_live = is_live(&self.table, &link, arrival.clock);
+        let opens = link.place.is_none() && self.finds_no_match(&arrival, &link.names);
+        let (answer, place) = self.call(&arrival);
+        if was_live && link.sheltered {
+            assert_eq!(
+                (answer, Some(place)),
+                (PASSED, link.place),
+                "honest ends are never blocked: {draft:?}"
+            );
+        }
+        if answer == PASSED && opens {
+            link.place = Some(place);
+            self.links.retain(|other| other.place != Some(place));
+        }
+        // Once its entry is gone a link is over, even if its SYN opened another.
+        let lives = was_live || opens;
+        if answer == PASSED && lives {
+            link.passed(sender, &sending);
+        }
+        let over = link.place.is_some() && !lives || link.is_given_up() || self.is_closed(&link);
+        if !over {
+            self.links.push(link);
+        }
+        arrival
+    }
+
+    /// An old link, or a new one while there are few.
+    fn choose_link(&mut self) -> usize {
+        let most = MOST_LINKS.min(table::places(&self.table));
+        if self.links.is_empty() || self.links.len() < most && self.random.once_in(8) {
+            let names = self.new_names();
+            self.links.push(Link::new(names, &mut self.random));
+            return self.links.len() - 1;
+        }
+        self.random.index(self.links.len())
+    }
+
+    /// Names that no link has. They are few enough to come again, also while an
+    /// entry of an earlier connection is still live.
+    fn new_names(&mut self) -> Names {
+        loop {
+            let names = Names {
+                opener_address: 0x0a00_0000 + self.random.below(8) as u32,
+                answerer_address: 0x0a00_0004 + self.random.below(8) as u32,
+                opener_port: 1024 + self.random.below(64) as u16,
+                answerer_port: self.random.pick(&[80, 443, 1024]),
+            };
+            if self.links.iter().all(|link| link.names != names) {
+                return names;
+            }
+        }
+    }
+
+    /// Any legal clock; now and then the last one at which the link's entry is
+    /// live, or the first at which it is not.
+    fn honest_clock(&mut self, link: &Link) -> u64 {
+        if self.random.once_in(1_000) {
+            if let Some(entry) = entry_of(&self.table, link) {
+                let early = self.random.pick(&[0, 1, 1]);
+                return (entry.connection.deadline - early).min(CLOCK_LIMIT - 2);
+            }
+        }
+        self.call_clock()
+    }
+
+    fn finds_no_match(&self, arrival: &Arrival, names: &Names) -> bool {
+        let clock_used = arrival.clock.max(table::clock(&self.table));
+        table::first_live_match(&self.table, 0, names, clock_used).is_none()
+    }
+
+    /// Both FINs passed, and nothing more is to come.
+    fn is_closed(&mut self, link: &Link) -> bool {
+        let closed = entry_of(&self.table, link).is_some_and(|entry| entry.connection.stage == 5);
+        closed && self.random.once_in(6)
+    }
+
+    /// A random live entry for which the condition holds.
+    fn live_entry(&mut self, fits: impl Fn(&Connection) -> bool) -> Option<Entry> {
+        let places = table::places(&self.table);
+        let first = self.random.index(places);
+        let clock = self.clock.max(table::clock(&self.table));
+        (0..places)
+            .map(|step| table::entry(&self.table, (first + step) % places))
+            .find(|entry| entry.connection.is_live(clock) && fits(&entry.connection))
+    }
+
+    /// A segment of a connection from one of its ends.
+    fn arrival_on(&mut self, entry: &Entry, sender: usize, numbers: Numbers) -> Arrival {
+        let opener_side = entry.connection.side;
+        let (side, names) = if sender == OPENER {
+            (opener_side, entry.names)
+        } else {
+            (1 - opener_side, entry.names.reversed())
+        };
+        let draft = numbers.draft(names);
+        Arrival {
+            side,
+            clock: self.call_clock(),
+            packet: draft.packet(&mut self.random),
+        }
+    }
+
+    /// At, one inside or one outside of a bound of a live connection.
+    fn bound_probe(&mut self) -> Option<Arrival> {
+        let entry = self.live_entry(|held| held.stage >= 2)?;
+        let sender = self.random.index(2);
+        let numbers = self.numbers_at_bound(&entry.connection, sender);
+        Some(self.arrival_on(&entry, sender, numbers))
+    }
+
+    fn numbers_at_bound(&mut self, held: &Connection, sender: usize) -> Numbers {
+        let random = &mut self.random;
+        let (from, to) = (held.ends[sender], held.ends[1 - sender]);
+        let flags = if random.once_in(3) {
+            random.pick(&[ACK | FIN, SYN, SYN | ACK, RST, RST | ACK, RST | FIN])
+        } else {
+            ACK
+        };
+        let room = from.edge.wrapping_sub(from.end);
+        let payload = match random.below(8) {
+            _ if flags & SYN != 0 => 0,
+            0 => room as usize,
+            1 => self.longest,
+            2 | 3 => random.index(64),
+            4 => 1,
+            _ => 0,
+        };
+        let payload = payload.min(self.longest);
+        let octets = payload as u32 + (flags & (SYN | FIN)).count_ones();
+        // One below, at and one above.
+        let step = random.pick(&[u32::MAX, 0, 1]);
+        let mut numbers = Numbers {
+            flags,
+            sequence: from.end.wrapping_sub(octets.saturating_sub(room)),
+            acknowledgement: to.end.wrapping_sub(random.pick(&[0, 0, 1, 500])),
+            window: random.window(),
+            payload,
+        };
+        match random.below(9) {
+            0 | 1 => numbers.sequence = from.edge.wrapping_sub(octets).wrapping_add(step),
+            2 | 3 => numbers.sequence = from.end.wrapping_sub(to.win).wrapping_add(step),
+            4 | 5 => numbers.acknowledgement = to.end.wrapping_add(step),
+            6 | 7 => {
+                let oldest = to.end.wrapping_sub(OLDEST_ACKNOWLEDGEMENT);
+                numbers.acknowledgement = oldest.wrapping_add(step);
+            }
+            _ => numbers.go_far(random),
+        }
+        numbers
+    }
+
+    /// One of the three segments that stage 1 lets through, or one like it.
+    fn stage_1_probe(&mut self) -> Option<Arrival> {
+        let entry = self.live_entry(|held| held.stage == 1)?;
+        let random = &mut self.random;
+        let opener_end = entry.connection.ends[OPENER].end;
+        let step = random.pick(&[0, 0, 0, 1, u32::MAX]);
+        let (sender, flags) = random.pick(&[
+            (OPENER, SYN),
+            (OPENER, SYN),
+            (OPENER, SYN | ACK),
+            (OPENER, ACK),
+            (OPENER, RST),
+            (OPENER, RST | ACK),
+            (ANSWERER, SYN | ACK),
+            (ANSWERER, SYN | ACK),
+            (ANSWERER, RST | ACK),
+            (ANSWERER, RST | ACK),
+            (ANSWERER, RST | ACK | FIN),
+            (ANSWERER, RST),
+            (ANSWERER, ACK),
+            (ANSWERER, ACK | FIN),
+            (ANSWERER, SYN),
+        ]);
+        let sequence = if sender == OPENER {
+            opener_end.wrapping_sub(1).wrapping_add(step)
+        } else {
+            random.place()
+        };
+        let payload = if flags & SYN == 0 { random.index(3) } else { 0 };
+        let numbers = Numbers {
+            flags,
+            sequence,
+            acknowledgement: opener_end.wrapping_add(step),
+            window: random.window(),
+            payload,
+        };
+        Some(self.arrival_on(&entry, sender, numbers))
+    }
+
+    /// A reset that passes.
+    fn reset(&mut self) -> Option<Arrival> {
+        let entry = self.live_entry(|_| true)?;
+        let ends = &entry.connection.ends;
+        let sender = if entry.connection.stage == 1 {
+            ANSWERER
+        } else {
+            self.random.index(2)
+        };
+        let numbers = Numbers {
+            flags: RST | ACK,
+            sequence: ends[sender].end,
+            acknowledgement: ends[1 - sender].end,
+            window: 0,
+            payload: 0,
+        };
+        Some(self.arrival_on(&entry, sender, numbers))
+    }
+
+    /// What would pass, one before, at or one after the deadline; now and then
+    /// an opening, which finds the place expired or not.
+    fn expiry_probe(&mut self) -> Option<Arrival> {
+        let entry = self.live_entry(|_| true)?;
+        let ends = &entry.connection.ends;
+        let in_stage_1 = entry.connection.stage == 1;
+        let numbers = Numbers {
+            flags: if in_stage_1 { SYN } else { ACK },
+            sequence: ends[OPENER].end.wrapping_sub(u32::from(in_stage_1)),
+            acknowledgement: ends[ANSWERER].end,
+            window: self.random.window(),
+            payload: 0,
+        };
+        let mut arrival = if self.random.once_in(4) {
+            self.flood_arrival()?
+        } else {
+            self.arrival_on(&entry, OPENER, numbers)
+        };
+        let step = self.random.below(3);
+        arrival.clock = (entry.connection.deadline + step - 1).min(CLOCK_LIMIT - 2);
+        Some(arrival)
+    }
+
+    /// The opening SYN of one that never answers.
+    fn flood_arrival(&mut self) -> Option<Arrival> {
+        let names = self.random_names();
+        let draft = self.random_numbers(&[SYN]).draft(names);
+        Some(Arrival {
+            side: 0,
+            clock: self.call_clock(),
+            packet: draft.packet(&mut self.random),
+        })
+    }
+
+    /// A packet of no connection, or one that differs from those of a live one
+    /// in a name or the side.
+    fn stranger(&mut self) -> Option<Arrival> {
+        let mut side = self.random.below(2) as u8;
+        let mut names = self.random_names();
+        if !self.random.once_in(4) {
+            if let Some(entry) = self.live_entry(|_| true) {
+                names = entry.names;
+                side = entry.connection.side;
+                self.change_one(&mut names, &mut side);
+            }
+        }
+        let flags = [SYN, SYN | ACK, ACK, ACK | FIN, RST, RST | ACK, RST | FIN];
+        let draft = self.random_numbers(&flags).draft(names);
+        Some(Arrival {
+            side,
+            clock: self.stranger_clock(),
+            packet: draft.packet(&mut self.random),
+        })
+    }
+
+    fn change_one(&mut self, names: &mut Names, side: &mut u8) {
+        let bit = self.random.below(32);
+        match self.random.below(8) {
+            0 => names.opener_address ^= 1 << bit,
+            1 => names.answerer_address ^= 1 << bit,
+            2 => names.opener_port ^= 1 << (bit % 16),
+            3 => names.answerer_port ^= 1 << (bit % 16),
+            4 => *side = 1 - *side,
+            5 => *names = names.reversed(),
+            6 => std::mem::swap(&mut names.opener_port, &mut names.answerer_port),
+            _ => std::mem::swap(&mut names.opener_address, &mut names.answerer_address),
+        }
+    }
+
+    /// Also the last legal clock: a blocked packet must not store it.
+    fn stranger_clock(&mut self) -> u64 {
+        if self.random.once_in(50) {
+            return CLOCK_LIMIT - 1;
+        }
+        self.call_clock()
+    }
+
+    /// A packet that answers 5 to 10 refuse, mostly of a live connection.
+    fn spoilt(&mut self) -> Option<Arrival> {
+        let names = match self.live_entry(|_| true) {
+            Some(entry) if !self.random.once_in(4) => entry.names,
+            _ => self.random_names(),
+        };
+        let mut numbers = self.random_numbers(&[ACK]);
+        numbers.payload = 1 + self.random.index(32);
+        let mut packet = numbers.draft(names).packet(&mut self.random);
+        spoil(&mut packet, &mut self.random);
+        Some(Arrival {
+            side: self.random.below(2) as u8,
+            clock: self.stranger_clock(),
+            packet,
+        })
+    }
+
+    fn random_names(&mut self) -> Names {
+        let random = &mut self.random;
+        Names {
+            opener_address: random.next() as u32,
+            answerer_address: 0x0a00_0004 + random.below(8) as u32,
+            opener_port: random.next() as u16,
+            answerer_port: 80,
+        }
+    }
+
+    fn random_numbers(&mut self, flags: &[u8]) -> Numbers {
+        let random = &mut self.random;
+        let flags = random.pick(flags);
+        let payload = if flags & SYN == 0 { random.index(8) } else { 0 };
+        Numbers {
+            flags,
+            sequence: random.place(),
+            acknowledgement: random.place(),
+            window: random.window(),
+            payload,
+        }
+    }
+}
+
+/// The fields of a segment beside its names.
+#[derive(Clone, Copy)]
+struct Numbers {
+    flags: u8,
+    sequence: u32,
+    acknowledgement: u32,
+    window: u16,
+    payload: usize,
+}
+
+impl Numbers {
+    fn draft(self, names: Names) -> Draft {
+        Draft {
+            names,
+            flags: self.flags,
+            sequence: self.sequence,
+            acknowledgement: self.acknowledgement,
+            window: self.window,
+            payload: self.payload,
+        }
+    }
+
+    /// Near the other side of the ring, or anywhere.
+    fn go_far(&mut self, random: &mut Random) {
+        let far = match random.below(2) {
+            0 => (1u32 << 31).wrapping_add(random.below(70_000) as u32) - 35_000,
+            _ => random.next() as u32,
+        };
+        if random.once_in(2) {
+            self.sequence = self.sequence.wrapping_add(far);
+        } else {
+            self.acknowledgement = self.acknowledgement.wrapping_add(far);
+        }
+    }
+}
+
+/// The entry of a link whose opening passed, while it is the link's.
+fn entry_of(table: &[u8], link: &Link) -> Option<Entry> {
+    let entry = table::entry(table, link.place? as usize);
+    (entry.names == link.names && entry.connection.stage != 0).then_some(entry)
+}
+
+/// Whether a call with this clock finds the link's entry live.
+fn is_live(table: &[u8], link: &Link, clock: u64) -> bool {
+    let clock_used = clock.max(table::clock(table));
+    entry_of(table, link).is_some_and(|entry| entry.connection.is_live(clock_used))
+}
+
+#[cfg(test)]
+mod tests {
+    use super::*;
+
+    /// Every honest segment is checked against the order's demand 3 as it is
+    /// made; tables of every size keep their soundness.
+    #[test]
+    fn honest_ends_are_never_blocked() {
+        for (seed, places) in [(1, 1), (2, 2), (3, 7), (4, 64)] {
+            let mut world = World::new(seed, places, 1_900);
+            for _ in 0..10_000 {
+                world.next_arrival();
+            }
+            assert!(table::is_sound(world.table()));
+        }
+    }
+}
