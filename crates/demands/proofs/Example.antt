@@ -1,0 +1,41 @@
+-- Document 01's example on bytes, by computation: three packets through a fresh table of two places.
+use Prim.Native.Nat.{ℕ}
+use mathlib.Core.Path.{_≡_, refl}
+use mathlib.Core.List.{List, [], _∷_}
+use Rattle.packet.specs.Read.{readPacket}
+use Rattle.packet.specs.Sum.{onesPlus, onesSum}
+use Rattle.octets.specs.Digits.{tabulate, number, digits}
+use Rattle.octets.specs.Overwrite.{overwrite}
+use Rattle.octets.specs.BigEndian.{bigEndian, octetsOf}
+use Rattle.entry.specs.Layout.{endBytes, marksBytes, endpointsBytes, numbersBytes, entryBytes, connectionAt, entryAt}
+use Rattle.table.specs.Table.{zerosAt, allFrom, firstFrom, headerClock, soundHeader, freeAt, soundAt, soundTable, fromOpener, fromAnswerer, liveMatchAt, expiredAt}
+use Rattle.filter.specs.Call.{legalLength, entryAfter, openingEntry, senderOf, onEntry, unmatched, onSegment, outcomeOf, replyOf, tableAfter}
+use Rattle.connection.specs.Decision.{sameSyn, reply, verdictUnanswered, verdictByRanges, verdictOn, opened, repeated, answered, carried, passed}
+use Rattle.connection.specs.Ends.{sent, granted, written}
+use Rattle.connection.specs.Sound.{soundFins, soundEnd, soundUnanswered, soundConnection}
+use Rattle.connection.specs.Stages.{lifeOf, withFin, finsAfter, openStage, stageAfter}
+use Rattle.connection.specs.Ranges.{sequenceMet, ackMet}
+use Rattle.serial.specs.Serial.{further}
+use Rattle.serial.specs.Ring.{wrap, ringPlus, ringMinus, standing}
+use Rattle.choice.specs.Choice.{if_then_else_}
+use Rattle.demands.specs.Demands.{freshBytes}
+
+abbrev packet1 : List ℕ
+packet1 = 69 ∷ 0 ∷ 0 ∷ 40 ∷ 0 ∷ 0 ∷ 0 ∷ 0 ∷ 64 ∷ 6 ∷ 102 ∷ 206 ∷ 10 ∷ 0 ∷ 0 ∷ 1 ∷ 10 ∷ 0 ∷ 0 ∷ 2 ∷ 4 ∷ 0 ∷ 0 ∷ 80 ∷ 0 ∷ 0 ∷ 0 ∷ 100 ∷ 0 ∷ 0 ∷ 0 ∷ 0 ∷ 80 ∷ 2 ∷ 3 ∷ 232 ∷ 147 ∷ 68 ∷ 0 ∷ 0 ∷ []
+
+abbrev packet2 : List ℕ
+packet2 = 69 ∷ 0 ∷ 0 ∷ 40 ∷ 0 ∷ 0 ∷ 0 ∷ 0 ∷ 64 ∷ 6 ∷ 102 ∷ 206 ∷ 10 ∷ 0 ∷ 0 ∷ 2 ∷ 10 ∷ 0 ∷ 0 ∷ 1 ∷ 0 ∷ 80 ∷ 4 ∷ 0 ∷ 0 ∷ 0 ∷ 1 ∷ 244 ∷ 0 ∷ 0 ∷ 0 ∷ 101 ∷ 80 ∷ 18 ∷ 7 ∷ 208 ∷ 141 ∷ 87 ∷ 0 ∷ 0 ∷ []
+
+abbrev packet3 : List ℕ
+packet3 = 69 ∷ 0 ∷ 0 ∷ 40 ∷ 0 ∷ 0 ∷ 0 ∷ 0 ∷ 64 ∷ 6 ∷ 102 ∷ 206 ∷ 10 ∷ 0 ∷ 0 ∷ 1 ∷ 10 ∷ 0 ∷ 0 ∷ 2 ∷ 4 ∷ 0 ∷ 0 ∷ 80 ∷ 0 ∷ 0 ∷ 0 ∷ 101 ∷ 0 ∷ 0 ∷ 1 ∷ 246 ∷ 80 ∷ 16 ∷ 3 ∷ 232 ∷ 145 ∷ 63 ∷ 0 ∷ 0 ∷ []
+
+abbrev after1 : List ℕ
+after1 = tableAfter (freshBytes 2) (outcomeOf 0 0 (freshBytes 2) packet1)
+
+abbrev after2 : List ℕ
+after2 = tableAfter after1 (outcomeOf 1 100 after1 packet2)
+
+-- the SYN opens place 0, the SYN+ACK passes there, and the ACK of what was never sent is blocked
+pub example : (replyOf (outcomeOf 0 0 (freshBytes 2) packet1) ≡ record { answer = 0; place = 0 }) × (replyOf (outcomeOf 1 100 after1 packet2) ≡ record { answer = 0; place = 0 }) × (replyOf (outcomeOf 0 200 after2 packet3) ≡ record { answer = 15; place = 65535 })
+unfolding readPacket onesPlus onesSum tabulate number digits overwrite bigEndian octetsOf endBytes marksBytes endpointsBytes numbersBytes entryBytes connectionAt entryAt zerosAt allFrom firstFrom headerClock soundHeader freeAt soundAt soundTable fromOpener fromAnswerer liveMatchAt expiredAt legalLength entryAfter openingEntry senderOf onEntry unmatched onSegment outcomeOf sameSyn reply verdictUnanswered verdictByRanges verdictOn opened repeated answered carried passed sent granted written soundFins soundEnd soundUnanswered soundConnection lifeOf withFin finsAfter openStage stageAfter sequenceMet ackMet further wrap ringPlus ringMinus standing if_then_else_
+example = (refl, refl, refl)

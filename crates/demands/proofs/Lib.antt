@@ -1,0 +1,11 @@
+pub mod Entries
+pub mod Search
+pub mod Reading
+pub mod Outcome
+pub mod Endpoints
+pub mod Frame
+pub mod View
+pub mod Sound
+pub mod Keeps
+pub mod Demands
+pub mod Example

@@ -1,0 +1,55 @@
+use Prim.Native.Nat.{ℕ}
+use mathlib.Core.Path.{sym, ap, _∙_}
+use Rattle.packet.specs.declared.PacketRead.{PacketRead}
+use Rattle.filter.specs.Call.{onPacket}
+use Rattle.filter.specs.Outcome.{Blocked}
+use Rattle.filter.specs.Decided.{decided}
+use borrow.Author.Needs.{needs}
+use Rattle.filter.proofs.on_packet.Statement.{statement}
+use Rattle.filter.proofs.on_packet.Tie as tie
+
+read-packet-requires : tie.Need-read-packet-requires
+read-packet-requires c κs = search needs
+
+enum-known-read : tie.Need-enum-known-read
+enum-known-read c = search needs
+
+number-requires : tie.Need-number-requires
+number-requires c κs = search needs
+
+blocked-requires : tie.Need-blocked-requires
+blocked-requires c κs = search needs
+
+enum-known-read-2 : tie.Need-enum-known-read-2
+enum-known-read-2 c = search needs
+
+on-segment-requires : tie.Need-on-segment-requires
+on-segment-requires c κs = search needs
+
+returns : tie.Need-returns
+returns c =
+    let k = c .before .before .before .before .before in
+    let a = k .before .before .before .args in
+    c .blocked .ensures
+    ∙ ap (λ (n : ℕ). decided (Blocked n)) (c .before .number .ensures)
+    ∙ ap (λ (r : PacketRead). decided (onPacket r (a .table .now) (a .clock) (a .side))) (sym (c .before .before .before .read .given .1) ∙ k .read-packet .ensures)
+
+returns-2 : tie.Need-returns-2
+returns-2 c =
+    let k = c .before .before .before .before in
+    let a = k .before .before .before .args in
+    c .on-segment .ensures
+    ∙ ap (λ (r : PacketRead). decided (onPacket r (a .table .now) (a .clock) (a .side))) (sym (c .before .before .read2 .given .1) ∙ k .read-packet .ensures)
+
+pub on-packet-spec : {M : Type 1} → statement M
+on-packet-spec =
+    tie.close
+    (tie.spec
+    read-packet-requires
+    enum-known-read
+    number-requires
+    blocked-requires
+    enum-known-read-2
+    on-segment-requires
+    returns
+    returns-2)

@@ -1,0 +1,75 @@
+use mathlib.Core.Path.{_≡_, sym, ap, _∙_}
+use Rattle.entry.specs.declared.Entry.{Entry}
+use Rattle.table.specs.Table.{firstFrom, expiredAt}
+use Rattle.filter.specs.Outcome.{Passed}
+use Rattle.filter.specs.Decided.{decided}
+use Rattle.filter.proofs.Rows.{unmatched-not-from-side-0, unmatched-not-syn, unmatched-syn}
+use borrow.Author.Needs.{needs}
+use Rattle.filter.proofs.unmatched.Statement.{statement}
+use Rattle.filter.proofs.unmatched.Tie as tie
+
+blocked-requires : tie.Need-blocked-requires
+blocked-requires c κs = search needs
+
+returns : tie.Need-returns
+returns c = c .blocked .ensures ∙ ap decided (sym (unmatched-not-from-side-0 _ _ _ _ _ (c .before .if1 .taken)))
+
+blocked-requires-2 : tie.Need-blocked-requires-2
+blocked-requires-2 c κs = search needs
+
+returns-2 : tie.Need-returns-2
+returns-2 c = c .blocked2 .ensures ∙ ap decided (sym (unmatched-not-syn _ _ _ _ _ (c .before .if2 .taken)))
+
+vacant-requires : tie.Need-vacant-requires
+vacant-requires c κs = search needs
+
+enum-known-found : tie.Need-enum-known-found
+enum-known-found c = search needs
+
+opening-requires : tie.Need-opening-requires
+opening-requires c κs = search needs
+
+passed-requires : tie.Need-passed-requires
+passed-requires c κs = search needs
+
+enum-told : tie.Need-enum-told
+enum-told c = search needs
+
+blocked-requires-3 : tie.Need-blocked-requires-3
+blocked-requires-3 c κs = search needs
+
+returns-3 : tie.Need-returns-3
+returns-3 c =
+    let k = c .before .before .before .before .before in
+    let z = k .before .before .before .before .before in
+    let a = z .args in
+    let h = ap (firstFrom (expiredAt (a .table .now) (a .clock)) 0) (sym (z .pre .0)) ∙ sym (k .vacant .ensures) ∙ c .before .before .before .found .given .1 in
+    c .passed .ensures
+    ∙ ap (λ (x : Entry). decided (Passed (c .before .before .before .found .given .0 .0) (a .clock) x)) (c .before .opening .ensures)
+    ∙ ap decided (sym (unmatched-syn (a .table .now) (a .clock) (a .side) (a .flow) (a .segment) (k .before .before .before .if1 .left) (k .before .if2 .left) _ h))
+
+returns-4 : tie.Need-returns-4
+returns-4 c =
+    let k = c .before .before .before in
+    let z = k .before .before .before .before .before in
+    let a = z .args in
+    let h = ap (firstFrom (expiredAt (a .table .now) (a .clock)) 0) (sym (z .pre .0)) ∙ sym (k .vacant .ensures) ∙ c .before .enum-told .given .1 in
+    c .blocked3 .ensures
+    ∙ ap decided (sym (unmatched-syn (a .table .now) (a .clock) (a .side) (a .flow) (a .segment) (k .before .before .before .if1 .left) (k .before .if2 .left) _ h))
+
+pub unmatched-spec : {M : Type 1} → statement M
+unmatched-spec =
+    tie.close
+    (tie.spec
+    blocked-requires
+    returns
+    blocked-requires-2
+    returns-2
+    vacant-requires
+    enum-known-found
+    opening-requires
+    passed-requires
+    enum-told
+    blocked-requires-3
+    returns-3
+    returns-4)
