@@ -21,13 +21,14 @@ use Rattle.entry.specs.Layout.{entrySize, placeAt, entryAt}
 use Rattle.table.specs.Table.{firstFrom, liveMatchAt, expiredAt}
 use Rattle.table.specs.declared.Found.{Found}
 use Rattle.table.specs.declared.Found.the-variants.{At, Nothing}
-use Rattle.filter.specs.Call.{legalLength, placesIn, clockUsed, sourceOf, destinationOf, entryAfter, byVerdict, senderOf, onEntry, onVacant, unmatched, onFound, onSegment, onPacket, outcomeOf, replyOf, tableAfter}
+use Rattle.filter.specs.Call.{placesIn, clockUsed, sourceOf, destinationOf, entryAfter, byVerdict, senderOf, onEntry, onVacant, unmatched, onFound, onSegment, onPacket, outcomeOf, replyOf, tableAfter}
 use Rattle.filter.specs.Outcome.{Outcome, Blocked, Passed}
 use Rattle.filter.specs.Decided.{decided, written, Fits}
 use Rattle.filter.specs.declared.Decision.{Decision}
 use Rattle.filter.specs.declared.Reply.{Reply}
 use Rattle.filter.proofs.Rows.{not-false, legal-length-bounds}
 
+-- an answer that is not 0, or an entry inside the table
 abbrev pub Within : List ℕ → Outcome → Type 0
 Within t (Blocked n) = 0 < n
 Within t (Passed p now e) = placeAt p + entrySize ≤ length t
@@ -97,7 +98,9 @@ module _ (t : List ℕ) (long : 128 ≤ length t) where
 
     unmatched-within : Within t (unmatched t now side f g)
     unfolding unmatched
-    unmatched-within = if-either (Within t) _ _ _ (vacant-within (firstFrom (expiredAt t now) 0 (placesIn t)) (found-below (expiredAt t now) (placesIn t) 0 (placesIn t) (omega arith))) (omega arith)
+    unmatched-within =
+        let found = firstFrom (expiredAt t now) 0 (placesIn t) in
+        if-either (Within t) _ _ _ (vacant-within found (found-below (expiredAt t now) (placesIn t) 0 (placesIn t) (omega arith))) (omega arith)
 
     found-within : (o : Found) → Below (placesIn t) o → Within t (onFound o t now side f g)
     unfolding onEntry

@@ -28,6 +28,7 @@ pub legal-length-bounds : (n : ℕ) → legalLength n ≡ true → (128 ≤ n) �
 unfolding legalLength
 legal-length-bounds n e = between-true 128 32832 n (&&-true (n % 64 =ᵇ 0) _ e .1)
 
+-- a sound table's clock is below 2^48, so that the clock used is
 pub sound-table-clock : (t : List ℕ) (n : ℕ) → soundTable t n ≡ true → headerClock t < 2 ^ 48
 unfolding soundTable soundHeader
 sound-table-clock t n e = ltb-true (headerClock t) (2 ^ 48) (&&-true _ _ (&&-true (soundHeader t) _ e .0) .0)
@@ -54,7 +55,7 @@ module _ (t : List ℕ) (now side : ℕ) (f : Flow) (g : Segment) where
   onSegment-by-search from to n o p q r e =
       sym (ap (λ (x : Found). onFound x t now side f g) (e ∙ (λ i. firstFrom (liveMatchAt t now side (p i) (q i)) 0 (r i))))
 
--- the first line that applies wins
+-- rows 1 to 4, and what comes after them
 module _ (side clock : ℕ) (t packet : List ℕ) where
   pub row-1 : 1 < side → outcomeOf side clock t packet ≡ Blocked 1
   unfolding outcomeOf

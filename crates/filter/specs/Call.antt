@@ -1,5 +1,5 @@
 -- One call of the filter on bytes (document 01, "What the gate says").
-use Prim.Native.Nat.{ℕ, _+_, _-_, _*_, _/_, _%_, _^_, max}
+use Prim.Native.Nat.{ℕ, _-_, _/_, _%_, _^_, max}
 use mathlib.Core.Bool.{Bool, _&&_, not}
 use mathlib.Core.List.{List}
 use lib.ListN.{length}
@@ -15,7 +15,7 @@ use Rattle.packet.specs.declared.PacketRead.the-variants.{Refused, Tcp}
 use Rattle.connection.specs.Decision.{verdictOn, verdictNumber, free, opened, passed}
 use Rattle.connection.specs.declared.Verdict.{Verdict}
 use Rattle.connection.specs.declared.Verdict.the-variants.{Pass, NotAllowed, SequenceMissed, AckMissed}
-use Rattle.entry.specs.Layout.{headerSize, entrySize, placeAt, entryAt, entryBytes}
+use Rattle.entry.specs.Layout.{entrySize, placeAt, entryAt, entryBytes}
 use Rattle.entry.specs.declared.Endpoint.{Endpoint}
 use Rattle.entry.specs.declared.Entry.{Entry}
 use Rattle.table.specs.Table.{firstFrom, headerClock, soundTable, fromOpener, liveMatchAt, expiredAt}

@@ -4,7 +4,7 @@ ghost use Prim.Native.Nat.{_^_, _≤_, _<_};
 ghost use lib.ListN.{length};
 ghost use Rattle.entry.specs.Layout.{placeAt};
 ghost use Rattle.packet.specs.Read.{readPacket};
-ghost use Rattle.filter.specs.Call.{legalLength, placesIn, clockUsed, sourceOf, destinationOf, entryAfter, openingEntry, senderOf, onEntry, unmatched, onSegment, freeEntry, onPacket, outcomeOf, replyOf, tableAfter};
+ghost use Rattle.filter.specs.Call.{legalLength, placesIn, clockUsed, sourceOf, destinationOf, freeEntry, entryAfter, senderOf, onEntry, openingEntry, unmatched, onSegment, onPacket, outcomeOf, replyOf, tableAfter};
 ghost use Rattle.filter.specs.Decided.{decided, written, Fits};
 ghost use Rattle.filter.specs.Outcome.{Blocked, Passed};
 use connection::Connection;

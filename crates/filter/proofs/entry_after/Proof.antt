@@ -1,4 +1,4 @@
-use mathlib.Core.Path.{_≡_, sym, _∙_}
+use mathlib.Core.Path.{sym, _∙_}
 use Rattle.choice.proofs.Choice.{if-=, if-=-not}
 use Rattle.filter.specs.Call.{entryAfter}
 use borrow.Author.Needs.{needs}

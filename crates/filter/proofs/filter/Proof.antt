@@ -24,7 +24,9 @@ returns c =
     let o = outcomeOf (a .side) (a .clock) (a .table .now) (a .packet .now) in
     let e = k .decide .ensures in (
       (λ i. record { answer = e i .answer; place = e i .place }) ∙ reply≡replyOf o,
-      c .before .before .commit .ensures ∙ ap (written (a .table .now)) e ∙ written≡tableAfter (a .table .now) o (outcome-within (a .side) (a .clock) (a .table .now) (a .packet .now)),
+      c .before .before .commit .ensures
+          ∙ ap (written (a .table .now)) e
+          ∙ written≡tableAfter (a .table .now) o (outcome-within (a .side) (a .clock) (a .table .now) (a .packet .now)),
     )
 
 pub filter-spec : {M : Type 1} → statement M

@@ -1,4 +1,4 @@
-use mathlib.Core.Path.{_≡_, sym, ap, _∙_}
+use mathlib.Core.Path.{sym, ap, _∙_}
 use Rattle.entry.specs.declared.Entry.{Entry}
 use Rattle.table.specs.Table.{firstFrom, expiredAt}
 use Rattle.filter.specs.Outcome.{Passed}
