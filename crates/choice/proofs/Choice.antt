@@ -19,6 +19,17 @@ unfolding if_then_else_
 if-either P true x y a b = a
 if-either P false x y a b = b
 
+-- the same, each line with what its test says
+pub if-cases : {A : Type 0} (P : A → Type 0) (t : Bool) (x y : A) → (t ≡ true → P x) → (t ≡ false → P y) → P (if t then x else y)
+unfolding if_then_else_
+if-cases P true x y a b = a refl
+if-cases P false x y a b = b refl
+
+-- and of two choices by one test
+pub if-both : {A B : Type 0} (P : A → B → Type 0) (s t : Bool) (x y : A) (x' y' : B) → s ≡ t → (s ≡ true → P x x') → (s ≡ false → P y y') → P (if s then x else y) (if t then x' else y')
+if-both P s t x y x' y' same taken not-taken =
+    rw (← same) (if-cases (λ b. P b (if s then x' else y')) s x y (λ e. rw (if-true s x' y' e) (taken e)) (λ e. rw (if-false s x' y' e) (not-taken e)))
+
 -- a function of a choice is the choice of its values
 pub if-ap : {A B : Type 0} (f : A → B) (t : Bool) (x y : A) → f (if t then x else y) ≡ (if t then f x else f y)
 unfolding if_then_else_

@@ -9,7 +9,7 @@ use native.Mathlib.Numerals.{add-one}
 use lib.ListN.{length, getD}
 use borrow.Author.Tests.{lt-ltb, le-ltb, ltb-true, eq-eqb, eqb-true}
 use Rattle.choice.specs.Choice.{if_then_else_, _<ᵇ_, _=ᵇ_}
-use Rattle.choice.proofs.Choice.{if-true, if-false, if-<, if-<-not}
+use Rattle.choice.proofs.Choice.{if-true, if-false, if-either, if-<, if-<-not}
 use Rattle.choice.proofs.Tests.{&&-true, ||-true, true-or-false, lt-or-ge, false-true}
 use Rattle.connection.specs.Decision.{verdictOn, opened}
 use Rattle.connection.specs.declared.Verdict.{Verdict}
@@ -19,6 +19,10 @@ use Rattle.honest.specs.Rows.{Bodies, Entry, Table, Ask, Reply, freeEntr
 use Rattle.honest.specs.Filter.{connections}
 
 module _ (K : Keys) (B : Bodies) where
+  pub sender-known : (e : Entry K B) (a : Ask K) → senderOf K B e a < 2
+  unfolding senderOf
+  sender-known e a = if-either (λ i. i < 2) _ _ _ (omega arith) (omega arith)
+
   -- The first place that meets a test
 
   module _ (test : Entry K B → Bool) where

@@ -9,7 +9,7 @@ use lib.ListN.{length, getD, set, length-set}
 use lib.Seq.{getD-set-same, getD-set-other}
 use borrow.Author.Tests.{ltb-true, eqb-true, eqb-false}
 use Rattle.choice.specs.Choice.{if_then_else_, _<ᵇ_, _=ᵇ_}
-use Rattle.choice.proofs.Choice.{if-true, if-false, if-either}
+use Rattle.choice.proofs.Choice.{if-both}
 use Rattle.choice.proofs.Tests.{true-or-false}
 use Rattle.segment.specs.Flags.{rst}
 use Rattle.segment.specs.declared.Segment.{Segment}
@@ -17,12 +17,7 @@ use Rattle.connection.specs.declared.Verdict.{Verdict}
 use Rattle.connection.specs.declared.Verdict.the-variants.{Pass, NotAllowed, SequenceMissed, AckMissed}
 use Rattle.honest.specs.Keys.{Keys}
 use Rattle.honest.specs.Rows.{Bodies, Ask, opens, Entry, Table, Reply, freeEntry, clockUsed, matches, senderOf, firstFrom, search, lowestExpired, pass, entryMade, entryAfter, byVerdict, unmatched, matched, filter}
-use Rattle.honest.proofs.Search.{found-live}
-
--- two choices by one test
-if-both : {A B : Type 0} (P : A → B → Type 0) (s t : Bool) (x y : A) (x' y' : B) → s ≡ t → (s ≡ true → P x x') → (s ≡ false → P y y') → P (if s then x else y) (if t then x' else y')
-if-both P s t x y x' y' same taken not-taken =
-    ⊎-elim (λ h. rw (if-true s x y h, if-true t x' y' (sym same ∙ h)) (taken h)) (λ h. rw (if-false s x y h, if-false t x' y' (sym same ∙ h)) (not-taken h)) (true-or-false s)
+use Rattle.honest.proofs.Search.{sender-known, found-live}
 
 module _ {K : Keys} {B C : Bodies} where
   -- what is asked of a relation between entries, for segments that are legal
@@ -56,10 +51,6 @@ module _ {K : Keys} {B C : Bodies} where
     sender-same : {e : Entry K B} {f : Entry K C} (a : Ask K) → R e f → senderOf K B e a ≡ senderOf K C f a
     unfolding senderOf
     sender-same a r = rw (agree .key r, agree .side r)
-
-    sender-known : (e : Entry K B) (a : Ask K) → senderOf K B e a < 2
-    unfolding senderOf
-    sender-known e a = if-either (λ i. i < 2) _ _ _ (omega arith) (omega arith)
 
     first-same : (test : Entry K B → Bool) (test' : Entry K C → Bool) → ((e : Entry K B) (f : Entry K C) → R e f → test e ≡ test' f) → (i : ℕ) (l : List (Entry K B)) (m : List (Entry K C)) → length l ≡ length m → ((p : ℕ) → p < length l → R (getD l p (freeEntry K B)) (getD m p (freeEntry K C))) → firstFrom K B test i l ≡ firstFrom K C test' i m
     unfolding firstFrom
@@ -107,10 +98,10 @@ module _ {K : Keys} {B C : Bodies} where
           go : (e : Entry K B) (f : Entry K C) → R e f → 0 < B .deadline (e .connection) → SameReply R (byVerdict K B (B .verdict (e .connection) (senderOf K B e a) (a .segment)) t a p (entryAfter K B e (senderOf K B e a) (a .segment) (clockUsed K B t a))) (byVerdict K C (C .verdict (f .connection) (senderOf K C f a) (a .segment)) u a p (entryAfter K C f (senderOf K C f a) (a .segment) (clockUsed K C u a)))
           go e f r live-e =
               let i = senderOf K B e a in
-              rw (← sender-same a r, ← clock-same, ← agree .verdict i (a .segment) r live-e (sender-known e a) legal)
+              rw (← sender-same a r, ← clock-same, ← agree .verdict i (a .segment) r live-e (sender-known K B e a) legal)
               (by-verdict-same p _ _ (B .verdict (e .connection) i (a .segment)) (λ passes.
               if-both R (rst (a .segment .flags) =ᵇ 1) (rst (a .segment .flags) =ᵇ 1) _ _ _ _ refl (λ _. agree .free)
-              (λ no-reset. agree .passed i (a .segment) (clockUsed K B t a) r live-e (sender-known e a) legal passes (eqb-false _ _ no-reset))))
+              (λ no-reset. agree .passed i (a .segment) (clockUsed K B t a) r live-e (sender-known K B e a) legal passes (eqb-false _ _ no-reset))))
 
       unmatched-same : SameReply R (unmatched K B t a) (unmatched K C u a)
       unfolding unmatched

@@ -30,7 +30,7 @@ use Rattle.honest.specs.Keys.{Keys}
 use Rattle.honest.specs.Rows.{Entry, Table, Ask, Reply, freeEntry, clockUsed, senderOf, search, entryAfter, byVerdict, filter, matched}
 use Rattle.honest.specs.Filter.{connections, SoundTable}
 use Rattle.honest.specs.Typed.{Typed, TypedTable}
-use Rattle.honest.proofs.Search.{Outcome, refuses, passes, makes, outcome}
+use Rattle.honest.proofs.Search.{sender-known, Outcome, refuses, passes, makes, outcome}
 
 -- Numbers stay below 2^32
 
@@ -168,10 +168,6 @@ module _ (K : Keys) where
         go SequenceMissed is answer = absurd (omega arith)
         go AckMissed is answer = absurd (omega arith)
 
-    sender-known : (e : Entry K connections) → senderOf K connections e a < 2
-    unfolding senderOf
-    sender-known e = if-either (λ n. n < 2) _ _ _ (omega arith) (omega arith)
-
     -- what it leaves of the entry is free or sound
     passed-entry : (e : Entry K connections) → SoundEntry (t .clock) e → Placeable (a .segment) → clockUsed K connections t a < e .connection .deadline → verdictOn (e .connection) (senderOf K connections e a) (a .segment) ≡ Pass → SoundEntry (clockUsed K connections t a) (entryAfter K connections e (senderOf K connections e a) (a .segment) (clockUsed K connections t a))
     passed-entry e s readable live verdict = go (true-or-false (rst (a .segment .flags) =ᵇ 1))
@@ -183,8 +179,8 @@ module _ (K : Keys) where
         go (inl reset) = rw if-true (free-sound _)
         go (inr none) =
             rw if-false record {
-              sound = inr (passed-sound (t .clock) (e .connection) (s .typed .0) (s .typed .1) not-free (senderOf K connections e a) (sender-known e) (a .segment) readable (clockUsed K connections t a) verdict (eqb-false _ _ none));
-              typed = passed-typed (e .connection) (s .typed .0) (s .typed .1) (a .segment) (clockUsed K connections t a) (senderOf K connections e a) (sender-known e);
+              sound = inr (passed-sound (t .clock) (e .connection) (s .typed .0) (s .typed .1) not-free (senderOf K connections e a) (sender-known K connections e a) (a .segment) readable (clockUsed K connections t a) verdict (eqb-false _ _ none));
+              typed = passed-typed (e .connection) (s .typed .0) (s .typed .1) (a .segment) (clockUsed K connections t a) (senderOf K connections e a) (sender-known K connections e a);
             }
 
     pub filter-sound : SoundTable K t → TypedTable K t → a .side ≤ 1 → Placeable (a .segment) → SoundTable K (filter K connections t a .table) × TypedTable K (filter K connections t a .table)
