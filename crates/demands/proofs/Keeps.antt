@@ -1,5 +1,5 @@
 -- The machine on bytes keeps to the filter without bytes.
-use Prim.Native.Nat.{ℕ, _^_, _<_, _≤_}
+use Prim.Native.Nat.{ℕ, _^_, _<_}
 use mathlib.Core.Path.{_≡_, refl, sym, ap, _∙_}
 use mathlib.Core.Logic.{_⊎_, inl, inr, ⊎-elim}
 use mathlib.Core.Bool.{true}
@@ -7,15 +7,12 @@ use mathlib.Core.List.{List}
 use native.Mathlib.Omega.{arith}
 use lib.ListN.{length, set, length-set}
 use lib.Seq.{getD-set-same}
-use borrow.Author.Tests.{ltb-true}
-use Rattle.choice.specs.Choice.{_<ᵇ_}
-use Rattle.choice.proofs.Tests.{&&-true}
 use Rattle.connection.specs.Sound.{soundConnection}
 use Rattle.entry.specs.Typed.{Typed}
 use Rattle.entry.specs.declared.Entry.{Entry}
-use Rattle.table.specs.Table.{headerClock, soundHeader, soundTable}
-use Rattle.filter.specs.Call.{legalLength, placesIn, freeEntry, outcomeOf, replyOf, tableAfter}
-use Rattle.filter.specs.Outcome.{Outcome, Passed}
+use Rattle.filter.specs.Call.{placesIn, freeEntry, outcomeOf, replyOf, tableAfter}
+use Rattle.filter.specs.Outcome.{Outcome}
+use Rattle.filter.proofs.Rows.{sound-table-clock}
 use Rattle.honest.specs.Rows as rows
 use Rattle.honest.specs.Filter.{connections, SoundTable}
 use Rattle.honest.specs.Typed as connection
@@ -32,12 +29,8 @@ use Rattle.demands.proofs.Endpoints.{asks-fits, left-fits}
 
 -- The clock used
 
-pub sound-clock : (t : List ℕ) → SoundBytes t → headerClock t < 2 ^ 48
-unfolding soundTable soundHeader
-sound-clock t s = ltb-true _ _ (&&-true (headerClock t <ᵇ 2 ^ 48) _ (&&-true (soundHeader t) _ (s .sound) .0) .0)
-
 used-small : (t : List ℕ) (q : BytesCall) (a : rows.Ask IPv4) → SoundBytes t → readingOf q ≡ asks a → rows.clockUsed IPv4 connections (viewOf t) a < 2 ^ 48
-used-small t q a s is = omega (arith, sound-clock t s, asked-clock q a is)
+used-small t q a s is = omega (arith, sound-table-clock t _ (s .sound), asked-clock q a is)
 
 -- The entry that a pass leaves
 

@@ -19,6 +19,7 @@ use Rattle.entry.specs.declared.Entry.{Entry}
 use Rattle.table.specs.Table.{firstFrom, liveMatchAt, expiredAt}
 use Rattle.table.specs.declared.Found.{Found}
 use Rattle.table.specs.declared.Found.the-variants.{At, Nothing}
+use Rattle.table.proofs.Places.{found-passes}
 use Rattle.filter.specs.Call.{placesIn, clockUsed, sourceOf, destinationOf, freeEntry, entryAfter, openingEntry, byVerdict, senderOf, onEntry, onVacant, unmatched, onFound, onSegment, onPacket, outcomeOf, replyOf, tableAfter}
 use Rattle.filter.specs.Outcome.{Outcome, Blocked, Passed}
 use Rattle.honest.specs.Rows as rows
@@ -27,7 +28,7 @@ use Rattle.honest.specs.Machine.{asks}
 use Rattle.honest.specs.IPv4.{Addresses, IPv4}
 use Rattle.demands.specs.Bytes.{BytesCall, SoundBytes, viewEntry, viewOf, addressesOf, readingOf}
 use Rattle.demands.proofs.Entries.{places-viewOf, getD-viewOf}
-use Rattle.demands.proofs.Search.{placeOr, askOf, found-inside, sender-same, search-same, lowest-same}
+use Rattle.demands.proofs.Search.{placeOr, askOf, sender-same, search-same, lowest-same}
 use Rattle.demands.proofs.Reading.{outcome-read, reading-asks}
 
 -- where the addresses and ports of an entry that a pass leaves are from
@@ -110,7 +111,7 @@ module _ (t : List ℕ) (side clock : ℕ) (f : Flow) (g : Segment) where
   unfolding onEntry
   matched-same p found =
       let here : rows.search IPv4 connections (viewOf t) ask ≡ p = sym (search-same side clock f g t) ∙ ap (placeOr (placesIn t)) found in
-      let inside : p < placesIn t = omega (arith, found-inside _ 0 (placesIn t) p found) in
+      let inside : p < placesIn t = omega (arith, found-passes _ (placesIn t) 0 p found .2) in
       by-verdict-same p _ (verdictOn (entryAt t (placeAt p) .connection) (senderOf (entryAt t (placeAt p)) side f) g) inside (verdict-reply (entryAt t (placeAt p)) p here inside refl) (after-endpoints p _)
 
   unmatched-same : firstFrom (liveMatchAt t now side (sourceOf f) (destinationOf f)) 0 (placesIn t) ≡ Nothing → Same t ask (unmatched t now side f g)
@@ -127,7 +128,7 @@ module _ (t : List ℕ) (side clock : ℕ) (f : Flow) (g : Segment) where
       go (inr closed) r is = refuses 11 (if-false _ _ _ closed) (λ z. omega arith) (none ∙ unmatched-closed (viewOf t) ask closed)
       go (inl opening) Nothing is = refuses 12 (if-true _ _ _ opening ∙ ap (λ r. onVacant r now side f g) is) (λ z. omega arith) (none ∙ unmatched-full (viewOf t) ask opening (omega (arith, places-viewOf t, lowest Nothing is)))
       go (inl opening) (At p) is =
-          let inside : p < placesIn t = omega (arith, found-inside _ 0 (placesIn t) p is) in
+          let inside : p < placesIn t = omega (arith, found-passes _ (placesIn t) 0 p is .2) in
           passes p now _ (if-true _ _ _ opening ∙ ap (λ r. onVacant r now side f g) is) inside refl
           (none ∙ unmatched-room (viewOf t) ask p opening (lowest (At p) is) (omega (arith, places-viewOf t, inside)))
           (of-packet refl)
@@ -155,6 +156,3 @@ call-same t q a s is =
 pub outcome-blocked-keeps : (t : List ℕ) (o : Outcome) → (replyOf o .answer ≡ 0 → ⊥) → tableAfter t o ≡ t
 outcome-blocked-keeps t (Blocked n) blocked = refl
 outcome-blocked-keeps t (Passed p now e) blocked = absurd (blocked refl)
-
-pub passed-answers-0 : (p now : ℕ) (e : Entry) → replyOf (Passed p now e) .answer ≡ 0
-passed-answers-0 p now e = refl

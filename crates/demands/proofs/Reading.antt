@@ -12,11 +12,10 @@ use Rattle.choice.proofs.Tests.{true-or-false}
 use Rattle.segment.specs.Readable.{Readable}
 use Rattle.segment.specs.declared.Segment.{Segment}
 use Rattle.packet.specs.Read.{readPacket, causeNumber}
-use Rattle.packet.specs.declared.Cause.{Cause}
-use Rattle.packet.specs.declared.Cause.the-variants.{Short, Version, HeaderLength, TotalBelowHeader, TotalAboveGiven, HeaderSum, Fragment, Protocol, TcpShort, OffsetBelowFive, OffsetPastTotal, SynFinRst, NoSynAckRst, SynPayload}
 use Rattle.packet.specs.declared.Flow.{Flow}
 use Rattle.packet.specs.declared.PacketRead.{PacketRead}
 use Rattle.packet.specs.declared.PacketRead.the-variants.{Refused, Tcp}
+use Rattle.packet.proofs.Causes.{cause-5-to-10}
 use Rattle.packet.proofs.Readable.{read-readable}
 use Rattle.history.specs.History.{Placeable}
 use Rattle.history.proofs.Places.{readable-placeable}
@@ -88,22 +87,6 @@ pub record Refusal (q : BytesCall) (n p : ℕ) : Type 0 where
   pub place : p ≡ nowhere
   pub blocks : n ≡ 0 → ⊥
 
-cause-some : (cause : Cause) → 1 ≤ causeNumber cause
-cause-some Short = omega arith
-cause-some Version = omega arith
-cause-some HeaderLength = omega arith
-cause-some TotalBelowHeader = omega arith
-cause-some TotalAboveGiven = omega arith
-cause-some HeaderSum = omega arith
-cause-some Fragment = omega arith
-cause-some Protocol = omega arith
-cause-some TcpShort = omega arith
-cause-some OffsetBelowFive = omega arith
-cause-some OffsetPastTotal = omega arith
-cause-some SynFinRst = omega arith
-cause-some NoSynAckRst = omega arith
-cause-some SynPayload = omega arith
-
 module _ (q : BytesCall) (n p : ℕ) where
   refusal : (m : ℕ) → 1 ≤ m → ((t : List ℕ) → SoundBytes t → outcomeOf (q .side) (q .clock) t (q .packet) ≡ Blocked m) → _≡_ {A = Reading (rows.Ask IPv4)} (refused m nowhere) (refused n p) → Refusal q n p
   refusal m some outcome same =
@@ -121,7 +104,7 @@ module _ (q : BytesCall) (n p : ℕ) where
 
   refused-packet : not (q .side ≤ᵇ 1) ≡ false → 2 ^ 48 ≤ᵇ q .clock ≡ false → (r : PacketRead) → readPacket (q .packet) ≡ r → byPacket r (q .side) (q .clock) ≡ refused n p → Refusal q n p
   refused-packet side-fine clock-fine (Refused cause) read is =
-      refusal (causeNumber cause) (cause-some cause) (λ t s. outcome-read _ _ t _ side-fine clock-fine s ∙ ap (λ r. onPacket r t (clockUsed t (q .clock)) (q .side)) read) is
+      refusal (causeNumber cause) (omega (arith, cause-5-to-10 cause .0)) (λ t s. outcome-read _ _ t _ side-fine clock-fine s ∙ ap (λ r. onPacket r t (clockUsed t (q .clock)) (q .side)) read) is
   refused-packet side-fine clock-fine (Tcp f g) read is = let z : _≡_ {A = ℕ} 0 1 = cc in absurd (omega arith)
 
   pub reading-refused : readingOf q ≡ refused n p → Refusal q n p

@@ -1,5 +1,5 @@
 -- The searches over bytes find what the searches over the list of entries find.
-use Prim.Native.Nat.{ℕ, zero, suc, _+_, _-_, _<_}
+use Prim.Native.Nat.{ℕ, zero, suc, _+_, _-_}
 use mathlib.Core.Path.{_≡_, refl, sym, ap, _∙_}
 use mathlib.Core.Logic.{_⊎_, inl, inr}
 use mathlib.Core.Bool.{Bool, true, false, _&&_}
@@ -44,16 +44,6 @@ first-same t test test' same i (suc k) =
 -- from place 0 on
 first-of-all : (t : List ℕ) (test : ℕ → Bool) (test' : rows.Entry IPv4 connections → Bool) → ((j : ℕ) → test j ≡ test' (viewEntry (entryAt t (placeAt j)))) → (k : ℕ) → placeOr k (firstFrom test 0 k) ≡ rows.firstFrom IPv4 connections test' 0 (entriesFrom t 0 k)
 first-of-all t test test' same k = ap (λ n. placeOr n (firstFrom test 0 k)) (omega arith) ∙ first-same t test test' same 0 k
-
--- a place that is found is one of those searched
-pub found-inside : (test : ℕ → Bool) (i k p : ℕ) → firstFrom test i k ≡ At p → p < i + k
-unfolding firstFrom
-found-inside test i zero p found = let z : _≡_ {A = ℕ} 0 1 = cc in absurd (omega arith)
-found-inside test i (suc k) p found = go (true-or-false (test i)) (found-inside test (i + 1) k p)
-  where
-    go : (test i ≡ true) ⊎ (test i ≡ false) → (firstFrom test (i + 1) k ≡ At p → p < i + 1 + k) → p < i + suc k
-    go (inl h) later = let here : At i ≡ At p = sym (if-true _ _ _ h) ∙ found in let same : i ≡ p = cc in omega arith
-    go (inr h) later = omega (arith, later (sym (if-false _ _ _ h) ∙ found))
 
 -- The tests
 

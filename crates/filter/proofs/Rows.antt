@@ -1,7 +1,7 @@
 -- Each line of a decision, by the fact that its test asks for.
 use Prim.Native.Nat.{ℕ, _%_, _^_, _≤_, _<_}
-use mathlib.Core.Path.{_≡_, refl, sym, ap, _∙_}
-use mathlib.Core.Bool.{Bool, true, false, not, and-false}
+use mathlib.Core.Path.{_≡_, sym, ap, _∙_}
+use mathlib.Core.Bool.{true, false, not, and-false}
 use mathlib.Core.List.{List}
 use lib.ListN.{length}
 use borrow.Author.Tests.{eq-eqb, ne-eqb, ltb-true, le-leb, lt-leb}
@@ -19,10 +19,6 @@ use Rattle.table.specs.Table.{firstFrom, headerClock, soundHeader, soundTable, 
 use Rattle.table.specs.declared.Found.{Found}
 use Rattle.filter.specs.Call.{legalLength, placesIn, clockUsed, sourceOf, destinationOf, byVerdict, senderOf, entryAfter, onEntry, onVacant, unmatched, onFound, onSegment, onPacket, outcomeOf}
 use Rattle.filter.specs.Outcome.{Blocked, Passed}
-
-pub not-false : (b : Bool) → not b ≡ false → b ≡ true
-not-false true e = refl
-not-false false e = sym e
 
 pub legal-length-bounds : (n : ℕ) → legalLength n ≡ true → (128 ≤ n) × (n ≤ 32832)
 unfolding legalLength

@@ -1,30 +1,28 @@
 -- An arrival of an honest segment at its live entry: it passes, and the entry that it leaves holds the history with it on top.
-use Prim.Native.Nat.{ℕ, zero, suc, _+_, _-_, _<_, _≤_, max}
-use mathlib.Core.Path.{_≡_, refl, sym, ap, subst, _∙_}
-use mathlib.Core.Logic.{_⊎_, inl, inr, ⊎-elim}
-use mathlib.Core.Bool.{Bool, true, false, _&&_, _||_, not}
-use mathlib.Core.List.{List, [], _∷_}
+use Prim.Native.Nat.{ℕ, zero, suc, _+_, _-_, _<_, _≤_}
+use mathlib.Core.Path.{_≡_, refl, ap, _∙_}
+use mathlib.Core.Bool.{Bool, true, false}
+use mathlib.Core.List.{List, _∷_}
 use native.Mathlib.Omega.{arith}
 use lib.Dec.{eqb}
-use lib.ListN.{length, getD, set}
+use lib.ListN.{length}
 use borrow.Author.Tests.{eqb-true, eqb-false}
-use Rattle.choice.specs.Choice.{if_then_else_, _=ᵇ_}
-use Rattle.choice.proofs.Choice.{if-true, if-false, if-either, if-=, if-=-not}
-use Rattle.segment.specs.Flags.{syn, rst, ack, SYN, SYN+ACK}
+use Rattle.choice.specs.Choice.{if_then_else_}
+use Rattle.choice.proofs.Choice.{if-either, if-=-not}
+use Rattle.segment.specs.Flags.{rst, ack}
 use Rattle.segment.specs.declared.Segment.{Segment}
 use Rattle.connection.specs.Stages.{lifeOf, stageAfter, openStage}
 use Rattle.connection.specs.Decision.{verdictOn, passed, opened, carried, repeated, answered, free}
 use Rattle.connection.specs.declared.Connection.{Connection}
-use Rattle.connection.specs.declared.Verdict.{Verdict}
 use Rattle.connection.specs.declared.Verdict.the-variants.{Pass}
-use Rattle.history.specs.Numbers.{Numbers, Spans}
-use Rattle.history.specs.History.{LineSegment, numbersOf, onWire, stageOf, judge, Holds, Formed}
+use Rattle.history.specs.Numbers.{Numbers}
+use Rattle.history.specs.History.{LineSegment, numbersOf, onWire, judge, Holds}
 use Rattle.history.proofs.Step.{Near, start-near, ack-near}
 use Rattle.history.proofs.Verdict.{Unanswered, Answered, spans, judged-answered, judged-unanswered}
 use Rattle.history.proofs.Pass.{carried-holds, carried-answered, repeated-holds, repeated-unanswered, answered-holds, answered-answered, answerer-begins}
 use Rattle.honest.specs.Keys.{Keys}
-use Rattle.honest.specs.Honest.{Event, Pair, endOf}
-use Rattle.honest.proofs.Sends.{SentWith, First, Fact, Protocol, Rises, rises-more, first-facts}
+use Rattle.honest.specs.Honest.{Event, Pair}
+use Rattle.honest.proofs.Sends.{SentWith, First, Fact, Protocol, rises-more}
 use Rattle.honest.proofs.Bounds as Bounds
 
 -- What a pass that is no reset leaves of side and deadline

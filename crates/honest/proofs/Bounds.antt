@@ -1,26 +1,24 @@
 -- Bounds I to IV at an arrival of an honest segment, and stage 1's three segments.
-use Prim.Native.Nat.{ℕ, zero, suc, _+_, _-_, _<_, _≤_, max}
+use Prim.Native.Nat.{ℕ, zero, suc, _+_, _-_, _<_, _≤_}
 use mathlib.Core.Path.{_≡_, refl, sym, ap, subst, _∙_}
-use mathlib.Core.Logic.{_⊎_, inl, inr, ⊎-elim}
+use mathlib.Core.Logic.{_⊎_, ⊎-elim}
 use mathlib.Core.Bool.{Bool, true, false, _&&_, _||_, not}
-use mathlib.Core.List.{List, [], _∷_}
+use mathlib.Core.List.{List}
 use native.Mathlib.Omega.{arith}
 use lib.Dec.{eqb}
-use borrow.Author.Tests.{eq-eqb, ne-eqb, eqb-true, eqb-false, le-leb}
-use Rattle.choice.specs.Choice.{if_then_else_, _=ᵇ_, _≠ᵇ_, _≤ᵇ_}
-use Rattle.choice.proofs.Choice.{if-true, if-false, if-either, if-=, if-=-not}
-use Rattle.choice.proofs.Tests.{false-true}
-use Rattle.segment.specs.Flags.{syn, rst, ack, SYN, SYN+ACK}
-use Rattle.connection.specs.Ranges.{ackRange, widest}
-use Rattle.connection.specs.declared.Verdict.{Verdict}
-use Rattle.connection.specs.declared.Verdict.the-variants.{Pass, SequenceMissed, AckMissed}
+use borrow.Author.Tests.{eq-eqb, eqb-true, eqb-false, le-leb}
+use Rattle.choice.specs.Choice.{if_then_else_, _=ᵇ_}
+use Rattle.choice.proofs.Choice.{if-true, if-false, if-=, if-=-not}
+use Rattle.segment.specs.Flags.{ack, SYN, SYN+ACK}
+use Rattle.connection.specs.Ranges.{ackRange}
+use Rattle.connection.specs.declared.Verdict.the-variants.{Pass, AckMissed}
 use Rattle.history.specs.Numbers.{Numbers, boundsI-II, boundsIII-IV, Spans}
 use Rattle.history.specs.History.{LineSegment, numbersOf, stageOf, judge, sameSynOnLine, replyOnLine, judgeUnanswered, Formed}
 use Rattle.history.proofs.Verdict.{Unanswered, Answered, spans}
 use Rattle.honest.specs.Keys.{Keys}
-use Rattle.honest.specs.Honest.{Event, Pair, receivedBy, highest, ackOf, endOf, answered, FirstSegment}
-use Rattle.honest.proofs.Lists.{In, highest-up, highest-lub, endBy-mine, numbers-up, end-lub}
-use Rattle.honest.proofs.Sends.{SentWith, ackFrom, Later, First, Fact, Protocol, FirstFacts, first-facts, first-acks, answered-in, passed-sent}
+use Rattle.honest.specs.Honest.{Event, Pair, highest, ackOf, endOf, answered}
+use Rattle.honest.proofs.Lists.{In, highest-lub, endBy-mine, numbers-up, end-lub}
+use Rattle.honest.proofs.Sends.{SentWith, ackFrom, Later, First, Fact, Protocol, FirstFacts, first-facts, answered-in, passed-sent}
 
 module _ {K : Keys} {Call : Type 0} (P : Pair K) (h : List LineSegment) (Arrived : ℕ → LineSegment → Type 0) (L : List (Event Call)) (inv : Protocol P h Arrived L) where
   module _ (k : ℕ) (p : LineSegment) (s : ℕ) (sent : SentWith k p s L) (in-order : (j : ℕ) (g : LineSegment) → Arrived j g → g .from ≡ p .from → j ≤ k) where

@@ -2,9 +2,8 @@
 use Prim.Native.Nat.{ℕ}
 use mathlib.Core.Path.{_≡_, refl, sym, ap, _∙_}
 use mathlib.Core.List.{List, [], _∷_}
-use Rattle.history.specs.History.{Placeable}
 use Rattle.honest.specs.Keys.{Keys}
-use Rattle.honest.specs.Rows.{Ask, Table, Reply, filter}
+use Rattle.honest.specs.Rows.{Ask, Table, filter}
 use Rattle.honest.specs.Filter.{connections}
 use Rattle.honest.specs.Machine.{Reading, refused, asks, Machine, KeepsTo}
 use Rattle.honest.specs.Demand2.{fresh, tableAfter, AllPlaceable, stateAfter, withAsk, asked, MachineFollows, Demand2Of}

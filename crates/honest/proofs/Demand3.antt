@@ -1,34 +1,32 @@
 -- Demand 3: two honest ends are never blocked, by any machine that keeps to the filter.
-use Prim.Native.Nat.{ℕ, zero, suc, _+_, _-_, _<_, _≤_, max}
+use Prim.Native.Nat.{ℕ, _+_, _-_, _<_, _≤_, max}
 use mathlib.Core.Path.{_≡_, refl, sym, ap, subst, _∙_}
 use mathlib.Core.Logic.{_⊎_, inl, inr, ⊎-elim}
-use mathlib.Core.Bool.{Bool, true, false, _&&_, _||_, not}
+use mathlib.Core.Bool.{Bool, true, false}
 use mathlib.Core.List.{List, [], _∷_}
 use native.Mathlib.Omega.{arith}
-use lib.Dec.{eqb, ltb}
-use lib.ListN.{length, getD, set}
+use lib.ListN.{length}
 use borrow.Author.Tests.{eq-eqb, eqb-true, eqb-false}
-use Rattle.choice.specs.Choice.{if_then_else_, _=ᵇ_}
-use Rattle.choice.proofs.Choice.{if-true, if-false, if-either, if-=, if-=-not}
+use Rattle.choice.specs.Choice.{if_then_else_}
+use Rattle.choice.proofs.Choice.{if-true, if-false, if-either, if-=-not}
 use Rattle.choice.proofs.Tests.{false-true, true-or-false, lt-or-ge}
 use Rattle.segment.specs.Flags.{rst, SYN}
-use Rattle.segment.specs.declared.Segment.{Segment}
 use Rattle.connection.specs.Stages.{lifeOf}
 use Rattle.connection.specs.Decision.{verdictOn, passed, opened}
 use Rattle.connection.specs.declared.Connection.{Connection}
 use Rattle.connection.specs.declared.Verdict.the-variants.{Pass}
 use Rattle.history.specs.Numbers.{Numbers}
-use Rattle.history.specs.History.{LineSegment, numbersOf, onWire, stageOf, Holds, Formed}
+use Rattle.history.specs.History.{LineSegment, onWire, stageOf, Holds, Formed}
 use Rattle.history.proofs.Pass.{opened-unanswered, opened-holds, opener-begins}
 use Rattle.honest.specs.Keys.{Keys}
-use Rattle.honest.specs.Rows.{Entry, Table, Ask, Reply, freeEntry, clockUsed, search, senderOf, pass, entryAfter, byVerdict, matched, filter}
+use Rattle.honest.specs.Rows.{Table, Ask, Reply, clockUsed, search, pass, entryAfter, matched, filter}
 use Rattle.honest.specs.Filter.{connections, SoundTable}
-use Rattle.honest.specs.Machine.{Said, Reading, refused, asks, Machine, KeepsTo}
-use Rattle.honest.specs.Honest.{Label, opening, arrival, other, Event, send, call, delivery, Pair, sideOf, keyOf, Sent, receivedBy, answered, Honest, Told, clockIn, passes, nextClock, afterSegment, afterCall, told, said, Live, Is, Arrived, Passed, Arrives, Opening, Arrival, FairCall, Fair, Legal, NeverBlocked, Demand3}
+use Rattle.honest.specs.Machine.{Reading, refused, asks, Machine, KeepsTo}
+use Rattle.honest.specs.Honest.{Label, opening, arrival, other, Event, send, call, delivery, Pair, sideOf, keyOf, Sent, receivedBy, answered, Honest, Told, clockIn, passes, nextClock, afterSegment, afterCall, told, said, Arrived, Passed, Opening, Arrival, FairCall, Legal, NeverBlocked, Demand3}
 use Rattle.honest.proofs.Lists.{In}
-use Rattle.honest.proofs.Sends.{SentWith, sent-with, First, Later, Fact, FirstFacts, first-facts, Protocol, answered-in, protocol-sent, protocol-delivered, protocol-called, protocol-passed}
+use Rattle.honest.proofs.Sends.{SentWith, sent-with, First, Later, Fact, first-facts, Protocol, answered-in, protocol-sent, protocol-delivered, protocol-called, protocol-passed}
 use Rattle.honest.proofs.Table.{OurEntry, OthersExpired, AskOf, arrival-found, opening-made, pass-elsewhere, pass-on-ours, pass-clock, filter-matched}
-use Rattle.honest.proofs.Arrival.{Heard, quiet, both, Passing, passing, Renewed, passed-renewed, opened-renewed}
+use Rattle.honest.proofs.Arrival.{Heard, quiet, passing, passed-renewed, opened-renewed}
 
 module _ {K : Keys} (M : Machine K) (Sound : M .State → Type 0) (keeps : KeepsTo K M Sound) (s₀ : M .State) (P : Pair K) (known : P .side ≤ 1) where
   -- the entry is there as the history has it, and no other of the pair is live
@@ -204,9 +202,6 @@ module _ {K : Keys} (M : Machine K) (Sound : M .State → Type 0) (keeps : Keeps
     -- An arrival at the live entry
 
     module _ (k : ℕ) (p : LineSegment) (s : ℕ) (a : Ask K) (read : M .reads q ≡ asks a) (brings : a .segment ≡ onWire p) (asked-p : AskOf P (p .from) a) (no-reset : rst (p .flags) ≡ 1 → ⊥) (c : Connection) (al : Alive t c) (live : max (clockIn M s₀ P (M .reads q)) (t .passClock) < t .until) (verdict : verdictOn c (p .from) (onWire p) ≡ Pass) where
-      next-entry : Entry K connections
-      next-entry = record { key = P .key; connection = passed c (p .from) (onWire p) (clockUsed K connections (M .view (t .state)) a) }
-
       filter-passes : filter K connections (M .view (t .state)) a ≡ pass K connections (M .view (t .state)) a (t .place) (record { key = P .key; connection = passed c (p .from) (onWire p) (clockUsed K connections (M .view (t .state)) a) })
       unfolding matched
       filter-passes =

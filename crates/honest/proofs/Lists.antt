@@ -1,5 +1,5 @@
 -- Maxima over lists of segments: every member is at most the maximum, and the maximum is at most what every member is.
-use Prim.Native.Nat.{ℕ, _+_, _-_, _<_, _≤_, max}
+use Prim.Native.Nat.{ℕ, _-_, _≤_}
 use mathlib.Core.Path.{_≡_, refl, sym, ap, _∙_}
 use mathlib.Core.Logic.{_⊎_, inl, inr, ⊎-elim}
 use mathlib.Core.Bool.{Bool, true, false, _&&_, _||_}
@@ -7,12 +7,12 @@ use mathlib.Core.List.{List, [], _∷_}
 use native.Mathlib.Omega.{arith}
 use lib.Dec.{eqb}
 use borrow.Author.Tests.{eq-eqb, ne-eqb, eqb-true, eqb-false}
-use Rattle.choice.specs.Choice.{if_then_else_, _=ᵇ_, _≠ᵇ_}
-use Rattle.choice.proofs.Choice.{if-true, if-false, if-either, if-=, if-=-not}
+use Rattle.choice.specs.Choice.{_=ᵇ_, _≠ᵇ_}
+use Rattle.choice.proofs.Choice.{if-true, if-false, if-either, if-=-not}
 use Rattle.choice.proofs.Tests.{||-true, false-true}
-use Rattle.segment.specs.Flags.{syn, rst, ack}
+use Rattle.segment.specs.Flags.{rst}
 use Rattle.history.specs.History.{LineSegment, numbersOf, endBy, edgeBy, windowBy}
-use Rattle.honest.specs.Honest.{highest, some, ackOf, edgeOf, endOf}
+use Rattle.honest.specs.Honest.{highest, some, edgeOf, endOf}
 
 -- p is one of the segments of l
 abbrev pub In : LineSegment → List LineSegment → Type 0

@@ -2,20 +2,20 @@
 use Prim.Native.Nat.{ℕ, zero, suc, _+_, _-_, _<_, _≤_, max}
 use mathlib.Core.Path.{_≡_, refl, sym, ap, subst, _∙_}
 use mathlib.Core.Logic.{_⊎_, inl, inr, ⊎-elim}
-use mathlib.Core.Bool.{Bool, true, false, _&&_, _||_}
+use mathlib.Core.Bool.{Bool, true, false}
 use mathlib.Core.List.{List, [], _∷_}
 use native.Mathlib.Omega.{arith}
 use lib.Dec.{eqb}
 use lib.ListN.{length}
-use borrow.Author.Tests.{eq-eqb, ne-eqb, eqb-true, eqb-false}
-use Rattle.choice.specs.Choice.{if_then_else_, _=ᵇ_, _≠ᵇ_}
+use borrow.Author.Tests.{eqb-true, eqb-false}
+use Rattle.choice.specs.Choice.{if_then_else_, _=ᵇ_}
 use Rattle.choice.proofs.Choice.{if-true, if-false, if-either, if-=, if-=-not}
 use Rattle.choice.proofs.Tests.{false-true}
 use Rattle.segment.specs.Flags.{syn, rst, ack, SYN, SYN+ACK}
-use Rattle.history.specs.History.{LineSegment, numbersOf, endBy, edgeBy, windowBy, Formed}
+use Rattle.history.specs.History.{LineSegment, numbersOf, Formed}
 use Rattle.honest.specs.Keys.{Keys}
 use Rattle.honest.specs.Honest.{Label, Event, send, call, delivery, Pair, sentBy, Sent, receivedBy, highest, some, ackOf, edgeOf, endOf, answered, FirstSegment, LaterSegment, Honest, first, later}
-use Rattle.honest.proofs.Lists.{In, highest-up, highest-lub, some-in, in-some, endBy-mine, windowBy-mine, edgeBy-theirs, numbers-up, end-lub, win-some}
+use Rattle.honest.proofs.Lists.{In, highest-up, highest-lub, some-in, in-some, endBy-mine, windowBy-mine, edgeBy-theirs, numbers-up, win-some}
 
 -- Sendings with their snapshots
 
@@ -92,9 +92,6 @@ unfolding numbersOf highest
 rises-more p h = record { end = λ i. omega arith; edge = λ i. omega arith; win = λ i. omega arith; acks = λ i. omega arith }
 
 module _ {Call : Type 0} where
-  pub grows-same : (L : List (Event Call)) → Grows L L
-  grows-same L = record { answered-still = λ i e. e; heard-more = λ i. omega arith }
-
   pub grows-send : (p : LineSegment) (L : List (Event Call)) → Grows L (send p ∷ L)
   unfolding answered receivedBy
   grows-send p L = record { answered-still = λ i e. e; heard-more = λ i. omega arith }

@@ -1,14 +1,14 @@
 -- Two kinds of entry that agree on key, side, deadline, verdicts and passes: over both, the filter gives the same answers and places.
 use Prim.Native.Nat.{ℕ, suc, _+_, _<_, max}
-use mathlib.Core.Path.{_≡_, refl, sym, ap, _∙_}
-use mathlib.Core.Logic.{_⊎_, inl, inr, ⊎-elim}
+use mathlib.Core.Path.{_≡_, refl, ap}
+use mathlib.Core.Logic.{_⊎_, inl, inr}
 use mathlib.Core.Bool.{Bool, true, false}
 use mathlib.Core.List.{List, [], _∷_}
 use native.Mathlib.Omega.{arith}
 use lib.ListN.{length, getD, set, length-set}
 use lib.Seq.{getD-set-same, getD-set-other}
 use borrow.Author.Tests.{ltb-true, eqb-true, eqb-false}
-use Rattle.choice.specs.Choice.{if_then_else_, _<ᵇ_, _=ᵇ_}
+use Rattle.choice.specs.Choice.{_<ᵇ_, _=ᵇ_}
 use Rattle.choice.proofs.Choice.{if-both}
 use Rattle.choice.proofs.Tests.{true-or-false}
 use Rattle.segment.specs.Flags.{rst}

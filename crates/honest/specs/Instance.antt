@@ -1,9 +1,8 @@
 -- The filter itself as a machine.
-use Prim.Native.Nat.{ℕ, _≤_}
-use lib.ListN.{replicate}
+use Prim.Native.Nat.{_≤_}
 use Rattle.history.specs.History.{Placeable}
 use Rattle.honest.specs.Keys.{Keys}
-use Rattle.honest.specs.Rows.{Table, Ask, freeEntry, filter}
+use Rattle.honest.specs.Rows.{Table, Ask, filter}
 use Rattle.honest.specs.Filter.{connections, SoundTable}
 use Rattle.honest.specs.Machine.{asks, Machine}
 use Rattle.honest.specs.Typed.{TypedTable}

@@ -1,12 +1,12 @@
 -- Laws of big-endian numbers: the widths that the code reads and writes, and that either undoes the other.
-use Prim.Native.Nat.{ℕ, zero, suc, _+_, _*_, _/_, _%_, _^_, _≤_, _<_}
-use mathlib.Core.Path.{_≡_, refl, sym, ap, _∙_}
+use Prim.Native.Nat.{ℕ, _+_, _*_, _/_, _%_, _^_, _≤_, _<_}
+use mathlib.Core.Path.{_≡_, sym, ap, _∙_}
 use mathlib.Core.List.{List, [], _∷_, _++_}
 use native.Mathlib.Omega.{arith}
 use native.Mathlib.Nat.{add-zero, add-assoc, div-add-mod', mod-lt, one-le-pow}
 use lib.ListN.{length, getD, take, drop}
 use lib.Seq.{getD-take, getD-drop}
-use Rattle.octets.specs.Digits.{tabulate, number, digits}
+use Rattle.octets.specs.Digits.{number, digits}
 use Rattle.octets.specs.BigEndian.{bigEndian, octetsOf}
 use Rattle.octets.specs.Overwrite.{overwrite}
 use Rattle.octets.proofs.Digits.{length-digits, number-cong, number-add, number-digits, digits-add, digits-number, tabulate-getD}

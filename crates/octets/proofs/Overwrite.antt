@@ -20,11 +20,6 @@ pub set≡overwrite : (l : List ℕ) (at v : ℕ) → at < length l → set l at
 unfolding overwrite
 set≡overwrite l at v h = rw add-one (set-split l at v h)
 
--- at the front: the part, and the rest as it was
-pub overwrite-front : (l vs : List ℕ) → overwrite l 0 vs ≡ vs ++ drop (length vs) l
-unfolding overwrite
-overwrite-front l vs = let e : 0 + length vs ≡ length vs = omega arith in rw e
-
 module _ (l : List ℕ) (at : ℕ) (vs : List ℕ) (fits : at + length vs ≤ length l) where
   before : length (take at l) ≡ at
   before = length-take-le at l (omega arith)

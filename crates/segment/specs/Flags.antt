@@ -1,7 +1,5 @@
 -- The control bits that the rules name (RFC 9293, 3.1); all other bits are ignored.
 use Prim.Native.Nat.{ℕ, _+_, _*_, _/_, _%_}
-use mathlib.Core.Bool.{Bool}
-use Rattle.choice.specs.Choice.{_=ᵇ_}
 
 abbrev pub fin : ℕ → ℕ
 fin f = f % 2

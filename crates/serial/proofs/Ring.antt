@@ -1,6 +1,6 @@
 -- Laws that relate the ring to the line, at windows up to `largestWindow` and ranges up to `largestRange`. Capital letters are
 -- places on the line: E an end, R an edge, S and A where a segment starts and what it acknowledges; W, n, K are counts.
-use Prim.Native.Nat.{ℕ, _+_, _*_, _-_, _%_, _^_, _<_, _≤_, max}
+use Prim.Native.Nat.{ℕ, _+_, _-_, _%_, _^_, _<_, _≤_}
 use mathlib.Core.Path.{_≡_, refl, sym, ap, _∙_}
 use mathlib.Core.Logic.{_↔_}
 use mathlib.Core.Bool.{Bool, true, false}
@@ -28,11 +28,6 @@ wrap-turn X = omega arith
 pub wrap-injective : (X Y : ℕ) → wrap X ≡ wrap Y → X < Y + 2 ^ 32 → Y < X + 2 ^ 32 → X ≡ Y
 unfolding wrap
 wrap-injective X Y same near near' = omega arith
-
--- counted on from a place a turn up
-pub turn-up : (s : ℕ) → ringPlus s 1 ≡ wrap (s + 2 ^ 32 + 1)
-unfolding wrap ringPlus
-turn-up s = omega arith
 
 pub wrap-plus : (X n : ℕ) → ringPlus (wrap X) n ≡ wrap (X + n)
 unfolding wrap ringPlus

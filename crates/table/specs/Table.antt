@@ -6,7 +6,6 @@ use lib.ListN.{getD}
 use Rattle.choice.specs.Choice.{if_then_else_, _<ᵇ_, _≤ᵇ_, _=ᵇ_}
 use Rattle.octets.specs.BigEndian.{bigEndian}
 use Rattle.connection.specs.Sound.{soundConnection}
-use Rattle.connection.specs.declared.Connection.{Connection}
 use Rattle.entry.specs.Layout.{placeAt, entryAt}
 use Rattle.entry.specs.declared.Endpoint.{Endpoint}
 use Rattle.entry.specs.declared.Entry.{Entry}

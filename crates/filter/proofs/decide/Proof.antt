@@ -3,10 +3,11 @@ use mathlib.Core.Path.{refl, sym, ap, _∙_}
 use mathlib.Core.Bool.{not}
 use native.Mathlib.Omega.{arith}
 use lib.ListN.{length}
+use borrow.Author.Tests.{not-false}
 use Rattle.packet.specs.Read.{readPacket}
 use Rattle.filter.specs.Call.{onPacket}
 use Rattle.filter.specs.Decided.{decided}
-use Rattle.filter.proofs.Rows.{not-false, legal-length-bounds, sound-table-clock, row-1, row-2, row-3, row-4, past-row-4}
+use Rattle.filter.proofs.Rows.{legal-length-bounds, sound-table-clock, row-1, row-2, row-3, row-4, past-row-4}
 use borrow.Author.Needs.{needs}
 use Rattle.filter.proofs.decide.Statement.{statement}
 use Rattle.filter.proofs.decide.Tie as tie

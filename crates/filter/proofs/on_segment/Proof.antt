@@ -2,9 +2,9 @@ use Prim.Native.Nat.{_<_}
 use mathlib.Core.Path.{sym, ap, _∙_}
 use native.Mathlib.Omega.{arith}
 use Rattle.entry.specs.declared.Entry.{Entry}
+use Rattle.table.proofs.Places.{found-passes}
 use Rattle.filter.specs.Call.{onEntry}
 use Rattle.filter.specs.Decided.{decided}
-use Rattle.filter.proofs.Fits.{found-place-below}
 use Rattle.filter.proofs.Rows.{onSegment-by-search}
 use borrow.Author.Needs.{needs}
 use Rattle.filter.proofs.on_segment.Statement.{statement}
@@ -12,7 +12,7 @@ use Rattle.filter.proofs.on_segment.Tie as tie
 
 -- the place found is one of the table's
 in-range : (f : tie.After-found) → f .found .given .0 .0 < f .before .before .before .before .before .before .args .places
-in-range f = found-place-below _ _ _ (sym (f .before .before .find .ensures) ∙ f .found .given .1)
+in-range f = let h = found-passes _ _ _ _ (sym (f .before .before .find .ensures) ∙ f .found .given .1) .2 in omega (arith, h)
 
 source-requires : tie.Need-source-requires
 source-requires c κs = search needs

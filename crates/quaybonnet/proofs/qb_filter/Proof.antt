@@ -1,9 +1,7 @@
-use Prim.Native.Nat.{ℕ, _+_, _*_}
-use mathlib.Core.Path.{_≡_, ap, _∙_}
+use mathlib.Core.Path.{ap, _∙_}
 use borrow.Author.Needs.{needs}
-use Rattle.filter.specs.Call.{outcomeOf, replyOf}
 use Rattle.quaybonnet.specs.Packed.{packed}
-use Rattle.quaybonnet.proofs.Small.{outcome-small}
+use Rattle.filter.proofs.Fits.{reply-small}
 use Rattle.quaybonnet.proofs.qb_filter.Statement.{statement}
 use Rattle.quaybonnet.proofs.qb_filter.Tie as tie
 
@@ -13,7 +11,7 @@ filter-requires c κs = search needs
 pack-requires : tie.Need-pack-requires
 pack-requires c κs =
     let a = c .before .before .before .before .before .before .args in
-    rw (c .before .before .filter .ensures .0) (outcome-small (a .side) (a .clock) (a .table .now) (a .packet .now))
+    rw (c .before .before .filter .ensures .0) (reply-small (a .side) (a .clock) (a .table .now) (a .packet .now))
 
 same-length : tie.Need-same-length
 same-length c = search needs
