@@ -1,5 +1,5 @@
 -- Laws of reading: the first illegal byte, well-formed lines, and each answer of `readLine`.
-use Prim.Native.Nat.{ℕ, zero, suc, _+_, _-_, _%_, _≤_, _<_}
+use Prim.Native.Nat.{ℕ, zero, suc, _+_, _-_, _%_, _≤_, _<_, min}
 use mathlib.Core.Path.{_≡_, refl, sym, _∙_}
 use mathlib.Core.Bool.{Bool, true, false, _&&_, and-false}
 use mathlib.Core.Logic.{⊎-elim}
@@ -9,8 +9,9 @@ use lib.ListN.{length, getD}
 use borrow.Author.Tests.{lt-ltb, le-ltb, le-leb, lt-leb, leb-true, eq-eqb, ne-eqb, eqb-true}
 use Rattle.choice.specs.Choice.{if_then_else_, _≤ᵇ_, _=ᵇ_}
 use Rattle.choice.proofs.Choice.{if-true, if-false}
+use Rattle.trace.specs.Hex.{isHex}
 use Rattle.trace.specs.Line.{mayStand, LegalLine, sideOf, clockOf, packetLength}
-use Rattle.trace.specs.Read.{illegalFrom, firstIllegal, wellFormed, readLine}
+use Rattle.trace.specs.Read.{illegalFrom, firstIllegal, HexFrom, wellFormed, readLine}
 use Rattle.trace.specs.declared.LineRead.the-variants.{TooLong, Malformed, NoRoom, Frame}
 use Rattle.choice.proofs.Tests.{lt-or-ge, false-true, &&-true}
 use Rattle.trace.proofs.Line.{packetLength-legal}
@@ -30,6 +31,19 @@ illegalFrom-illegal l i n h e =
 pub illegalFrom-end : (l : List ℕ) (i n : ℕ) → n ≤ i → illegalFrom l i (n - i) ≡ i
 unfolding illegalFrom
 illegalFrom-end l i n h = let k : n - i ≡ 0 = omega arith in rw k
+
+-- Hex digits from a position on
+
+pub hex-further : (l : List ℕ) (i end : ℕ) → HexFrom l i end → isHex (getD l end 0) ≡ true → HexFrom l i (end + 1)
+hex-further l i end all next k low high =
+    ⊎-elim (λ (h : k < end). all k low h) (λ (h : end ≤ k). let e : k ≡ end = omega arith in rw e next) (lt-or-ge k end)
+
+past-14 : (k b : ℕ) → 15 ≤ k → isHex b ≡ true → mayStand k b ≡ true
+unfolding mayStand
+past-14 k b h hex =
+    if-false _ _ _ (ne-eqb k 0 (λ (e : k ≡ 0). omega arith))
+    ∙ if-false _ _ _ (rw (ne-eqb k 1 (λ (e : k ≡ 1). omega arith), ne-eqb k 14 (λ (e : k ≡ 14). omega arith)))
+    ∙ hex
 
 -- r is the first of the places from i up to end whose byte may not stand there, or end
 record First (l : List ℕ) (i end r : ℕ) : Type 0 where
@@ -73,10 +87,28 @@ module _ (l : List ℕ) where
   pub firstIllegal-here : firstIllegal l < length l → mayStand (firstIllegal l) (getD l (firstIllegal l) 0) ≡ false
   firstIllegal-here = firstIllegal-first .here
 
+  -- an illegal byte in a part from the front is the line's first
+  pub illegal-in-part : (end : ℕ) → end ≤ length l → illegalFrom l 0 end < end → illegalFrom l 0 end ≡ firstIllegal l
+  illegal-in-part end short found =
+      let f = illegalFrom-first l 0 end end (omega arith) in
+      let r = illegalFrom l 0 end in
+      ⊎-elim (λ (h : r < firstIllegal l). false-true (sym (f .here found) ∙ firstIllegal-before r h))
+      (λ (h : firstIllegal l ≤ r).
+      ⊎-elim (λ (g : firstIllegal l < r). false-true (sym (firstIllegal-here (omega (arith, g, found))) ∙ f .before (firstIllegal l) (omega arith) g))
+      (λ (g : r ≤ firstIllegal l). omega (arith, g, h)) (lt-or-ge (firstIllegal l) r)) (lt-or-ge r (firstIllegal l))
+
   firstIllegal≡length : ((i : ℕ) → i < length l → mayStand i (getD l i 0) ≡ true) → firstIllegal l ≡ length l
   firstIllegal≡length each =
       ⊎-elim (λ (h : firstIllegal l < length l). false-true (sym (firstIllegal-here h) ∙ each (firstIllegal l) h))
       (λ (h : length l ≤ firstIllegal l). omega (arith, firstIllegal≤length)) (lt-or-ge (firstIllegal l) (length l))
+
+  -- the head is legal, and the rest are hex digits
+  pub all-legal : (n : ℕ) → n ≡ min (length l) 15 → n ≤ illegalFrom l 0 n → HexFrom l 15 (length l) → firstIllegal l ≡ length l
+  all-legal n is head rest =
+      let f = illegalFrom-first l 0 n n (omega arith) in
+      firstIllegal≡length (λ i h.
+      ⊎-elim (λ (g : i < n). f .before i (omega arith) (omega (arith, g, head)))
+      (λ (g : n ≤ i). past-14 i _ (omega (arith, is, g, h)) (rest i (omega (arith, is, g, h)) h)) (lt-or-ge i n))
 
 -- Well-formed lines
 

@@ -1,10 +1,12 @@
 -- Reading a line (document 01, "Trace lines"): refusals 21, 22, 23 in this order, or the frame.
-use Prim.Native.Nat.{ℕ, zero, suc, _+_, _%_}
-use mathlib.Core.Bool.{Bool, _&&_, not}
+use Prim.Native.Nat.{ℕ, zero, suc, _+_, _%_, _≤_, _<_}
+use mathlib.Core.Path.{_≡_}
+use mathlib.Core.Bool.{Bool, true, _&&_, not}
 use mathlib.Core.List.{List}
 use lib.ListN.{length, getD}
 use Rattle.choice.specs.Choice.{if_then_else_, _<ᵇ_, _≤ᵇ_, _=ᵇ_}
 use Rattle.octets.specs.Overwrite.{overwrite}
+use Rattle.trace.specs.Hex.{isHex}
 use Rattle.trace.specs.Line.{mayStand, sideOf, clockOf, packetLength, packetOf}
 use Rattle.trace.specs.declared.LineRead.{LineRead}
 use Rattle.trace.specs.declared.LineRead.the-variants.{TooLong, Malformed, NoRoom, Frame}
@@ -18,6 +20,10 @@ illegalFrom l i (suc k) = if mayStand i (getD l i 0) then illegalFrom l (i + 1) 
 -- the offset of the first byte that no legal line has there after the bytes before it; the length where there is none
 unfoldable pub firstIllegal : List ℕ → ℕ
 firstIllegal l = illegalFrom l 0 (length l)
+
+-- the bytes from position i on, up to an end, are hex digits
+abbrev pub HexFrom : List ℕ → ℕ → ℕ → Type 0
+HexFrom l i end = (k : ℕ) → i ≤ k → k < end → isHex (getD l k 0) ≡ true
 
 -- every byte may stand where it stands, and the line stops neither before its first packet byte nor at an odd digit
 unfoldable pub wellFormed : List ℕ → Bool

@@ -1,11 +1,12 @@
 // Trace lines: document 01, "Trace lines". One line holds one packet with its side and clock.
 ghost use mathlib.Core.Path.{_≡_};
-ghost use Prim.Native.Nat.{_+_, _*_, _^_, _≤_, _<_};
+ghost use Prim.Native.Nat.{_+_, _*_, _^_, _≤_, _<_, min, max};
 ghost use lib.ListN.{length};
 ghost use Rattle.octets.specs.Overwrite.{overwrite};
 ghost use Rattle.trace.specs.Hex.{isHex, hexValue, hexDigit, hexNumber, hexDigits, hexPairs};
 ghost use Rattle.trace.specs.Line.{mayStand, packetLength, packetOf, lineOf};
-ghost use Rattle.trace.specs.Read.{firstIllegal, readLine, packetAfter, readAnswer};
+ghost use mathlib.Core.Bool.{true};
+ghost use Rattle.trace.specs.Read.{illegalFrom, firstIllegal, HexFrom, readLine, packetAfter, readAnswer};
 ghost use Rattle.trace.specs.Write.{writeLine, lineAfter, writeAnswer};
 
 // What reading a line finds.
@@ -151,17 +152,67 @@ fn may_stand(i: usize, b: u8) -> bool
     }
 }
 
-fn first_illegal(line: &[u8]) -> usize
-    ensures { λ r. ⌜ r ≡ firstIllegal (now (line .entry)) ⌝ }
+// The first position below end whose byte may not stand there, or end.
+fn illegal_before(line: &[u8], end: usize) -> usize
+    requires { ⌜ end ≤ length (now line) ⌝ }
+    ensures { λ r. ⌜ r ≡ illegalFrom (now (line .entry)) 0 end ⌝ }
 {
     let mut i = 0;
-    while i < line.len() {
+    while i < end {
         if !may_stand(i, line[i]) {
             return i;
         }
         i += 1;
     }
     i
+}
+
+fn larger(a: u8, b: u8) -> u8
+    ensures { λ r. ⌜ r ≡ max a b ⌝ }
+{
+    if a < b { b } else { a }
+}
+
+// 0 only for a hex digit.
+fn strangeness(b: u8) -> u8
+    ensures { λ r. ⌜ (r ≡ 0 → isHex b ≡ true) ⌝ }
+{
+    if is_hex(b) { 0 } else { 1 }
+}
+
+// 0 only if every byte from position 15 on is a hex digit. It has no early return, so that many bytes are tested at a time.
+fn strangest(line: &[u8]) -> u8
+    ensures { λ r. ⌜ (r ≡ 0 → HexFrom (now (line .entry)) 15 (length (now (line .entry)))) ⌝ }
+{
+    let mut worst: u8 = 0;
+    let mut i = 15;
+    while i < line.len() {
+        worst = larger(worst, strangeness(line[i]));
+        i += 1;
+    }
+    worst
+}
+
+fn least(a: usize, b: usize) -> usize
+    ensures { λ r. ⌜ r ≡ min a b ⌝ }
+{
+    if a < b { a } else { b }
+}
+
+// An illegal byte is rare: all bytes are tested at once, and only if one is strange is it looked for.
+fn first_illegal(line: &[u8]) -> usize
+    ensures { λ r. ⌜ r ≡ firstIllegal (now (line .entry)) ⌝ }
+{
+    let len = line.len();
+    let head = least(len, 15);
+    let offset = illegal_before(line, head);
+    if offset < head {
+        return offset;
+    }
+    if strangest(line) == 0 {
+        return len;
+    }
+    illegal_before(line, len)
 }
 
 // The number that n hex digits from at on stand for.

@@ -1,61 +1,46 @@
--- The first illegal byte of the line is the first from i on, since every byte before i may stand where it stands.
-use Prim.Native.Nat.{_-_, _≤_}
-use mathlib.Core.Path.{_≡_, sym, _∙_}
+use mathlib.Core.Path.{sym, _∙_}
 use native.Mathlib.Omega.{arith}
-use native.Mathlib.Nat.{sub-zero}
-use lib.ListN.{length}
-use borrow.Author.Tests.{not-true, not-false}
-use Rattle.trace.specs.Read.{illegalFrom, firstIllegal}
-use Rattle.trace.proofs.Read.{illegalFrom-legal, illegalFrom-illegal, illegalFrom-end}
+use borrow.Author.Needs.{needs}
+use Rattle.trace.specs.Read.{firstIllegal}
+use Rattle.trace.proofs.Read.{illegal-in-part, all-legal}
 use Rattle.trace.proofs.first_illegal.Statement.{statement}
 use Rattle.trace.proofs.first_illegal.Tie as tie
 
-abbrev Inv-loop : tie.InvT-loop
-Inv-loop line i₀ i = (i ≤ length line) × (firstIllegal line ≡ illegalFrom line i (length line - i))
+least-requires : tie.Need-least-requires
+least-requires c κs = search needs
 
-abbrev μ-loop : tie.MeasureT-loop
-μ-loop line i₀ i = length line - i
+illegal-before-requires : tie.Need-illegal-before-requires
+illegal-before-requires c κs = search needs
 
-loop-holds : tie.Need-loop-holds Inv-loop μ-loop
-unfolding firstIllegal
-loop-holds c = (omega arith, rw sub-zero)
-
-shared-slice-read-may-stand : tie.Need-shared-slice-read-may-stand Inv-loop μ-loop
-shared-slice-read-may-stand c = omega arith
-
-may-stand-requires : tie.Need-may-stand-requires Inv-loop μ-loop
-may-stand-requires c κs = omega arith
-
-returns : tie.Need-returns Inv-loop μ-loop
+returns : tie.Need-returns
 returns c =
-    let l = c .before .before .before .before .loop in
-    sym (l .inv .1 ∙ illegalFrom-illegal _ (l .i) _ (omega arith) (sym (c .before .may-stand .ensures) ∙ not-true _ (c .if1 .taken)))
+    let h = c .before .illegal-before .ensures in
+    h ∙ illegal-in-part _ _ (omega (arith, c .before .before .least .ensures)) (rw (← h) (c .if1 .taken))
 
-add-i : tie.Need-add-i Inv-loop μ-loop
-add-i c = omega arith
+strangest-requires : tie.Need-strangest-requires
+strangest-requires c κs = search needs
 
-loop-less : tie.Need-loop-less Inv-loop μ-loop
-loop-less c = omega arith
+returns-2 : tie.Need-returns-2
+returns-2 c =
+    let e = c .before .before in
+    let h = e .before .illegal-before .ensures in
+    sym (all-legal _ _ (e .before .before .least .ensures) (rw (← h) (e .if1 .left)) (c .before .strangest .ensures (c .if2 .taken)))
 
-loop-again : tie.Need-loop-again Inv-loop μ-loop
-loop-again c =
-    let l = c .before .before .before .before .loop in
-    (omega arith, l .inv .1 ∙ illegalFrom-legal _ (l .i) _ (omega arith) (sym (c .before .may-stand .ensures) ∙ not-false _ (c .if1 .left)))
+illegal-before-requires-2 : tie.Need-illegal-before-requires-2
+illegal-before-requires-2 c κs = search needs
 
-returns-2 : tie.Need-returns-2 Inv-loop μ-loop
-returns-2 c = let l = c .before .loop in sym (l .inv .1 ∙ illegalFrom-end _ (l .i) _ (omega arith))
+returns-3 : tie.Need-returns-3
+unfolding firstIllegal
+returns-3 c = c .illegal-before2 .ensures
 
 pub first-illegal-spec : {M : Type 1} → statement M
 first-illegal-spec =
     tie.close
     (tie.spec
-    Inv-loop
-    μ-loop
-    loop-holds
-    shared-slice-read-may-stand
-    may-stand-requires
+    least-requires
+    illegal-before-requires
     returns
-    add-i
-    loop-less
-    loop-again
-    returns-2)
+    strangest-requires
+    returns-2
+    illegal-before-requires-2
+    returns-3)
