@@ -5,7 +5,7 @@ use mathlib.Core.List.{[], _∷_}
 use lib.ListN.{set}
 use Rattle.choice.specs.Choice.{if_then_else_, _=ᵇ_, _≠ᵇ_}
 use Rattle.serial.specs.Serial.{sameSeq, seqBack, larger}
-use Rattle.segment.specs.Flags.{rst, ack, SYN, SYN+ACK, ACK+RST}
+use Rattle.segment.specs.Flags.{isReset, ack, SYN, SYN+ACK, ACK+RST}
 use Rattle.segment.specs.declared.Segment.{Segment}
 use Rattle.connection.specs.Ends.{count, zeros, unheard, sender, other, effectiveWindow, granted, opening, written}
 use Rattle.connection.specs.Ranges.{sequenceMet, ackRange, ackMet}
@@ -98,7 +98,7 @@ carried c i g now = record {
 -- from stage 2 on any segment is carried
 unfoldable pub passed : Connection → ℕ → Segment → ℕ → Connection
 passed c i g now =
-    if rst (g .flags) =ᵇ 1 then free
+    if isReset (g .flags) then free
     else if c .stage ≠ᵇ 1 then carried c i g now
     else if i =ᵇ 0 then repeated c g now
     else answered c g now

@@ -3,7 +3,8 @@ use Prim.Native.Nat.{ℕ, _≤_}
 use mathlib.Core.List.{List}
 use lib.ListN.{replicate}
 use Rattle.entry.specs.Layout.{placeAt}
-use Rattle.honest.specs.Honest.{Event, Pair, Legal, NeverBlocked, Demand3}
+use Rattle.honest.specs.Rules.{Event, Pair}
+use Rattle.honest.specs.Honest.{Legal, NeverBlocked, Demand3}
 use Rattle.honest.specs.Demand2.{MachineFollows}
 use Rattle.honest.specs.IPv4.{IPv4}
 use Rattle.demands.specs.Bytes.{BytesCall, SoundBytes, bytesMachine}

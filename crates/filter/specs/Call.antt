@@ -6,7 +6,7 @@ use lib.ListN.{length}
 use Rattle.choice.specs.Choice.{if_then_else_, _≤ᵇ_, _=ᵇ_}
 use Rattle.octets.specs.BigEndian.{octetsOf}
 use Rattle.octets.specs.Overwrite.{overwrite}
-use Rattle.segment.specs.Flags.{rst, SYN}
+use Rattle.segment.specs.Flags.{isReset, SYN}
 use Rattle.segment.specs.declared.Segment.{Segment}
 use Rattle.packet.specs.Read.{readPacket, causeNumber}
 use Rattle.packet.specs.declared.Flow.{Flow}
@@ -54,7 +54,7 @@ freeEntry = record { opener = record { address = 0; port = 0 }; answerer = recor
 -- what a pass leaves of an entry; a reset frees it
 unfoldable pub entryAfter : Entry → ℕ → Segment → ℕ → Entry
 entryAfter e i g now =
-    if rst (g .flags) =ᵇ 1 then freeEntry
+    if isReset (g .flags) then freeEntry
     else record { opener = e .opener; answerer = e .answerer; connection = passed (e .connection) i g now }
 
 -- 13 to 15, or the pass
@@ -123,7 +123,11 @@ abbrev pub replyOf : Outcome → Reply
 replyOf (Blocked n) = record { answer = n; place = nowhere }
 replyOf (Passed p now e) = record { answer = 0; place = p }
 
+-- the table with another header clock and another entry at a place
+abbrev pub withEntry : List ℕ → ℕ → ℕ → Entry → List ℕ
+withEntry t p now e = overwrite (overwrite t 0 (octetsOf 8 now)) (placeAt p) (entryBytes e)
+
 -- a pass changes only the header clock and that entry; every other answer changes no byte
 abbrev pub tableAfter : List ℕ → Outcome → List ℕ
 tableAfter t (Blocked n) = t
-tableAfter t (Passed p now e) = overwrite (overwrite t 0 (octetsOf 8 now)) (placeAt p) (entryBytes e)
+tableAfter t (Passed p now e) = withEntry t p now e

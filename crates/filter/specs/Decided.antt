@@ -4,10 +4,8 @@ use mathlib.Core.Path.{_≡_}
 use mathlib.Core.List.{List}
 use lib.ListN.{length}
 use Rattle.choice.specs.Choice.{if_then_else_, _=ᵇ_}
-use Rattle.octets.specs.BigEndian.{octetsOf}
-use Rattle.octets.specs.Overwrite.{overwrite}
-use Rattle.entry.specs.Layout.{entrySize, placeAt, entryBytes}
-use Rattle.filter.specs.Call.{freeEntry, nowhere}
+use Rattle.entry.specs.Layout.{entrySize, placeAt}
+use Rattle.filter.specs.Call.{freeEntry, nowhere, withEntry}
 use Rattle.filter.specs.Outcome.{Outcome, Blocked, Passed}
 use Rattle.filter.specs.declared.Decision.{Decision}
 
@@ -17,9 +15,7 @@ decided (Passed p now e) = record { answer = 0; place = p; clock = now; entry = 
 
 -- the table that a decision leaves
 unfoldable pub written : List ℕ → Decision → List ℕ
-written t d =
-    if d .answer =ᵇ 0 then overwrite (overwrite t 0 (octetsOf 8 (d .clock))) (placeAt (d .place)) (entryBytes (d .entry))
-    else t
+written t d = if d .answer =ᵇ 0 then withEntry t (d .place) (d .clock) (d .entry) else t
 
 -- the entry of a pass lies in the table
 abbrev pub Fits : List ℕ → Decision → Type 0

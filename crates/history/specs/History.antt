@@ -6,7 +6,7 @@ use mathlib.Core.List.{List, [], _∷_}
 use Rattle.choice.specs.Choice.{if_then_else_, _=ᵇ_, _≠ᵇ_}
 use Rattle.serial.specs.Ring.{nearest}
 use Rattle.serial.specs.Serial.{seqAt}
-use Rattle.segment.specs.Flags.{syn, rst, ack, SYN, SYN+ACK, ACK+RST}
+use Rattle.segment.specs.Flags.{syn, rst, isReset, ack, SYN, SYN+ACK, ACK+RST}
 use Rattle.segment.specs.declared.Segment.{Segment}
 use Rattle.connection.specs.Ends.{count, effectiveWindow}
 use Rattle.connection.specs.Ranges.{ackRange, widest}
@@ -39,7 +39,7 @@ endBy i g = if (g .from =ᵇ i) && (rst (g .flags) ≠ᵇ 1) then g .start + g .
 -- SYN's end counts too, and bound I keeps it at or below the edge)
 abbrev pub edgeBy : ℕ → LineSegment → ℕ
 edgeBy i g =
-    if rst (g .flags) =ᵇ 1 then 0
+    if isReset (g .flags) then 0
     else if g .from =ᵇ i then (if syn (g .flags) =ᵇ 1 then g .start + g .length else 0)
     else if ack (g .flags) =ᵇ 1 then g .acked + max (g .window) 1
     else 0
@@ -60,13 +60,13 @@ numbersOf i (g ∷ h) = record {
 
 unfoldable pub finsOf : List LineSegment → ℕ
 finsOf [] = 0
-finsOf (g ∷ h) = if rst (g .flags) =ᵇ 1 then finsOf h else finsAfter (finsOf h) (g .from) (g .flags)
+finsOf (g ∷ h) = if isReset (g .flags) then finsOf h else finsAfter (finsOf h) (g .from) (g .flags)
 
 -- 0 before the opening and once a reset has passed
 unfoldable pub stageOf : List LineSegment → ℕ
 stageOf [] = 0
 stageOf (g ∷ h) =
-    if rst (g .flags) =ᵇ 1 then 0
+    if isReset (g .flags) then 0
     else if stageOf h =ᵇ 0 then 1
     else if stageOf h ≠ᵇ 1 then stageAfter (stageOf h) (finsOf (g ∷ h)) (g .from) (g .flags)
     else if g .from =ᵇ 0 then 1

@@ -21,7 +21,7 @@ use Rattle.history.proofs.Step.{Near, start-near, ack-near}
 use Rattle.history.proofs.Verdict.{Unanswered, Answered, spans, judged-answered, judged-unanswered}
 use Rattle.history.proofs.Pass.{carried-holds, carried-answered, repeated-holds, repeated-unanswered, answered-holds, answered-answered, answerer-begins}
 use Rattle.honest.specs.Keys.{Keys}
-use Rattle.honest.specs.Honest.{Event, Pair}
+use Rattle.honest.specs.Rules.{Event, Pair}
 use Rattle.honest.proofs.Sends.{SentWith, First, Fact, Protocol, rises-more}
 use Rattle.honest.proofs.Bounds as Bounds
 

@@ -16,7 +16,7 @@ use Rattle.history.specs.Numbers.{Numbers, boundsI-II, boundsIII-IV, Spans}
 use Rattle.history.specs.History.{LineSegment, numbersOf, stageOf, judge, sameSynOnLine, replyOnLine, judgeUnanswered, Formed}
 use Rattle.history.proofs.Verdict.{Unanswered, Answered, spans}
 use Rattle.honest.specs.Keys.{Keys}
-use Rattle.honest.specs.Honest.{Event, Pair, highest, ackOf, endOf, answered}
+use Rattle.honest.specs.Rules.{Event, Pair, highest, ackOf, endOf, answered}
 use Rattle.honest.proofs.Lists.{In, highest-lub, endBy-mine, numbers-up, end-lub}
 use Rattle.honest.proofs.Sends.{SentWith, ackFrom, Later, First, Fact, Protocol, FirstFacts, first-facts, answered-in, passed-sent}
 

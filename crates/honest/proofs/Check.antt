@@ -16,7 +16,8 @@ use Rattle.honest.specs.Keys.{Keys}
 use Rattle.honest.specs.Rows.{Table, Ask, search}
 use Rattle.honest.specs.Filter.{connections}
 use Rattle.honest.specs.Machine.{asks, Machine}
-use Rattle.honest.specs.Honest.{Label, opening, arrival, other, Event, send, call, delivery, Pair, sentBy, Sent, receivedBy, highest, some, ackOf, edgeOf, endOf, answered, sideOf, keyOf, FirstSegment, LaterSegment, Honest, first, later, told, passes, Live, said, Is, Arrived, Passed, Arrives, Opening, Arrival, FairCall, Fair, Legal}
+use Rattle.honest.specs.Rules.{Label, opening, arrival, other, Event, send, call, delivery, Pair, sentBy, Sent, receivedBy, highest, some, ackOf, edgeOf, endOf, answered, sideOf, keyOf, FirstSegment, LaterSegment, Honest, first, later}
+use Rattle.honest.specs.Honest.{told, passes, Live, said, Is, Arrived, Passed, Arrives, Opening, Arrival, FairCall, Fair, Legal}
 use Rattle.honest.specs.Instance.{ListCall, listMachine}
 
 -- Tests with what they show

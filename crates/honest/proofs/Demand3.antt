@@ -22,7 +22,8 @@ use Rattle.honest.specs.Keys.{Keys}
 use Rattle.honest.specs.Rows.{Table, Ask, Reply, clockUsed, search, pass, entryAfter, matched, filter}
 use Rattle.honest.specs.Filter.{connections, SoundTable}
 use Rattle.honest.specs.Machine.{Reading, refused, asks, Machine, KeepsTo}
-use Rattle.honest.specs.Honest.{Label, opening, arrival, other, Event, send, call, delivery, Pair, sideOf, keyOf, Sent, receivedBy, answered, Honest, Told, clockIn, passes, nextClock, afterSegment, afterCall, told, said, Arrived, Passed, Opening, Arrival, FairCall, Legal, NeverBlocked, Demand3}
+use Rattle.honest.specs.Rules.{Label, opening, arrival, other, Event, send, call, delivery, Pair, sideOf, keyOf, Sent, receivedBy, answered, Honest}
+use Rattle.honest.specs.Honest.{Told, clockIn, passes, nextClock, afterSegment, afterCall, told, said, Arrived, Passed, Opening, Arrival, FairCall, Legal, NeverBlocked, Demand3}
 use Rattle.honest.proofs.Lists.{In}
 use Rattle.honest.proofs.Sends.{SentWith, sent-with, First, Later, Fact, first-facts, Protocol, answered-in, protocol-sent, protocol-delivered, protocol-called, protocol-passed}
 use Rattle.honest.proofs.Table.{OurEntry, OthersExpired, AskOf, arrival-found, opening-made, pass-elsewhere, pass-on-ours, pass-clock, filter-matched}

@@ -9,7 +9,8 @@ use Rattle.honest.specs.Keys.{Keys}
 use Rattle.honest.specs.Rows.{freeEntry}
 use Rattle.honest.specs.Filter.{connections}
 use Rattle.honest.specs.Machine.{KeepsTo}
-use Rattle.honest.specs.Honest.{Event, Pair, Legal, NeverBlocked, Demand3}
+use Rattle.honest.specs.Rules.{Event, Pair}
+use Rattle.honest.specs.Honest.{Legal, NeverBlocked, Demand3}
 use Rattle.honest.specs.Instance.{ListCall, listMachine, SoundList}
 use Rattle.honest.specs.Demand2.{fresh, Demand2Of}
 use Rattle.honest.proofs.SoundKept.{free-typed, filter-sound}

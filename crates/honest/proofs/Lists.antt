@@ -12,7 +12,7 @@ use Rattle.choice.proofs.Choice.{if-true, if-false, if-either, if-=-not}
 use Rattle.choice.proofs.Tests.{||-true, false-true}
 use Rattle.segment.specs.Flags.{rst}
 use Rattle.history.specs.History.{LineSegment, numbersOf, endBy, edgeBy, windowBy}
-use Rattle.honest.specs.Honest.{highest, some, edgeOf, endOf}
+use Rattle.honest.specs.Rules.{highest, some, edgeOf, endOf}
 
 -- p is one of the segments of l
 abbrev pub In : LineSegment → List LineSegment → Type 0

@@ -14,7 +14,7 @@ use Rattle.choice.proofs.Tests.{false-true}
 use Rattle.segment.specs.Flags.{syn, rst, ack, SYN, SYN+ACK}
 use Rattle.history.specs.History.{LineSegment, numbersOf, Formed}
 use Rattle.honest.specs.Keys.{Keys}
-use Rattle.honest.specs.Honest.{Label, Event, send, call, delivery, Pair, sentBy, Sent, receivedBy, highest, some, ackOf, edgeOf, endOf, answered, FirstSegment, LaterSegment, Honest, first, later}
+use Rattle.honest.specs.Rules.{Label, Event, send, call, delivery, Pair, sentBy, Sent, receivedBy, highest, some, ackOf, edgeOf, endOf, answered, FirstSegment, LaterSegment, Honest, first, later}
 use Rattle.honest.proofs.Lists.{In, highest-up, highest-lub, some-in, in-some, endBy-mine, windowBy-mine, edgeBy-theirs, numbers-up, win-some}
 
 -- Sendings with their snapshots

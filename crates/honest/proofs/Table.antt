@@ -18,7 +18,7 @@ use Rattle.history.proofs.Sound.{sound-facts}
 use Rattle.honest.specs.Keys.{Keys}
 use Rattle.honest.specs.Rows.{Entry, Table, Ask, freeEntry, clockUsed, matches, liveMatch, senderOf, search, filter, matched, entryAfter}
 use Rattle.honest.specs.Filter.{connections, SoundTable}
-use Rattle.honest.specs.Honest.{Pair, sideOf, keyOf}
+use Rattle.honest.specs.Rules.{Pair, sideOf, keyOf}
 use Rattle.honest.proofs.Search.{firstFrom-first, first-only, EndOf, same-both, matches-end, end-matches, far-end, same-end, mutual-end, live-match, unfound-expired, expired-unfound, Outcome, refuses, passes, makes, outcome}
 
 module _ {K : Keys} (P : Pair K) where

@@ -12,8 +12,9 @@ use Rattle.connection.specs.Stages.{lifeOf, withFin, finsAfter, openStage, stag
 use Rattle.connection.specs.Decision.{sameSyn, reply, verdictUnanswered, verdictByRanges, verdictOn, opened, repeated, answered, carried, passed}
 use Rattle.history.specs.History.{finsOf, stageOf}
 use Rattle.honest.specs.Rows.{matches, senderOf, firstFrom, unmatched, matched, filter}
-use Rattle.honest.specs.Honest
-use Rattle.honest.specs.Honest.{sentBy, receivedBy, highest, some, passes, afterCall, told, Legal, NeverBlocked}
+use Rattle.honest.specs.Rules
+use Rattle.honest.specs.Rules.{sentBy, receivedBy, highest, some}
+use Rattle.honest.specs.Honest.{passes, afterCall, told, Legal, NeverBlocked}
 use Rattle.honest.specs.IPv4.{IPv4}
 use Rattle.honest.specs.Instance.{listMachine}
 use Rattle.honest.specs.Marked.{empty}
@@ -22,7 +23,7 @@ use Rattle.honest.proofs.Check.{legal?, legal?-sound}
 use Rattle.honest.proofs.Instance.{demand3-list, fresh-sound}
 
 computed : (legal? empty ends witness ≡ true) × (reverse (otherAnswers empty ends witness) ≡ 0 ∷ 11 ∷ 14 ∷ 0 ∷ []) × (placeTaken empty ends witness ≡ 1) × (lastStage empty ends witness ≡ 5)
-unfolding if_then_else_ wrap ringPlus ringMinus standing further sent granted written sequenceMet ackMet lifeOf withFin finsAfter openStage stageAfter sameSyn reply verdictUnanswered verdictByRanges verdictOn opened repeated answered carried passed finsOf stageOf matches senderOf firstFrom unmatched matched filter sentBy receivedBy highest some passes afterCall told Honest.answered
+unfolding if_then_else_ wrap ringPlus ringMinus standing further sent granted written sequenceMet ackMet lifeOf withFin finsAfter openStage stageAfter sameSyn reply verdictUnanswered verdictByRanges verdictOn opened repeated answered carried passed finsOf stageOf matches senderOf firstFrom unmatched matched filter sentBy receivedBy highest some passes afterCall told Rules.answered
 computed = (refl, refl, refl, refl)
 
 pub witness-legal : Legal (listMachine IPv4) empty ends witness

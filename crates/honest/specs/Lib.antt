@@ -2,6 +2,7 @@ pub mod Keys
 pub mod Rows
 pub mod Filter
 pub mod Machine
+pub mod Rules
 pub mod Honest
 pub mod Histories
 pub mod Demand2

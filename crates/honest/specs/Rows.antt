@@ -5,7 +5,7 @@ use mathlib.Core.Bool.{Bool, _&&_, _||_}
 use mathlib.Core.List.{List, [], _∷_}
 use lib.ListN.{length, getD, set}
 use Rattle.choice.specs.Choice.{if_then_else_, _<ᵇ_, _≤ᵇ_, _=ᵇ_}
-use Rattle.segment.specs.Flags.{rst, SYN}
+use Rattle.segment.specs.Flags.{isReset, SYN}
 use Rattle.segment.specs.declared.Segment.{Segment}
 use Rattle.connection.specs.declared.Verdict.{Verdict}
 use Rattle.connection.specs.declared.Verdict.the-variants.{Pass, NotAllowed, SequenceMissed, AckMissed}
@@ -122,7 +122,7 @@ module _ (K : Keys) (B : Bodies) where
   -- what a pass leaves of an entry; a reset frees it
   abbrev pub entryAfter : Entry → ℕ → Segment → ℕ → Entry
   entryAfter e i g now =
-      if rst (g .flags) =ᵇ 1 then freeEntry
+      if isReset (g .flags) then freeEntry
       else record { key = e .key; connection = B .passed (e .connection) i g now }
 
   abbrev pub byVerdict : Verdict → Table → Ask K → ℕ → Entry → Reply

@@ -15,7 +15,8 @@ use Rattle.segment.specs.Flags.{syn, SYN, SYN+ACK}
 use Rattle.history.specs.History.{LineSegment, onWire, stageOf, Placeable}
 use Rattle.honest.specs.Rows.{Table}
 use Rattle.honest.specs.Filter.{connections}
-use Rattle.honest.specs.Honest.{opening, arrival, other, Event, send, call, delivery, Pair, told, said}
+use Rattle.honest.specs.Rules.{opening, arrival, other, Event, send, call, delivery, Pair}
+use Rattle.honest.specs.Honest.{told, said}
 use Rattle.honest.specs.IPv4.{Addresses, IPv4, address, swapped}
 use Rattle.honest.specs.Instance.{ListCall, listMachine}
 use Rattle.honest.specs.Marked.{ACK, outward}

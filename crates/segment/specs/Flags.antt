@@ -1,5 +1,7 @@
 -- The control bits that the rules name (RFC 9293, 3.1); all other bits are ignored.
 use Prim.Native.Nat.{ℕ, _+_, _*_, _/_, _%_}
+use mathlib.Core.Bool.{Bool}
+use Rattle.choice.specs.Choice.{_=ᵇ_}
 
 abbrev pub fin : ℕ → ℕ
 fin f = f % 2
@@ -12,6 +14,10 @@ rst f = f / 4 % 2
 
 abbrev pub ack : ℕ → ℕ
 ack f = f / 16 % 2
+
+-- a reset frees the entry that it passes on
+abbrev pub isReset : ℕ → Bool
+isReset f = rst f =ᵇ 1
 
 -- the four alone, each at its place
 abbrev pub control : ℕ → ℕ
