@@ -1,0 +1,116 @@
+//! The calls that are timed, and what each must give.
+use crate::packets::{names, Draft, ACK, SHORT_HEADER, SYN};
+use crate::tables::{Fill, ANSWERER_END, OPENER_END};
+use reference::filter::NO_PLACE;
+
+const LONG_HEADER: usize = 60;
+const PAYLOAD: usize = 100;
+
+pub struct Case {
+    pub name: String,
+    pub table: Vec<u8>,
+    /// It comes from side 0.
+    pub packet: Vec<u8>,
+    pub answer: u32,
+    pub place: u32,
+    /// The same call on the table that it left would be another case.
+    pub opens: bool,
+}
+
+pub fn cases() -> Vec<Case> {
+    let tables = || {
+        [1, 64, 512]
+            .into_iter()
+            .flat_map(|places| fills(places).iter().map(move |&fill| (places, fill)))
+    };
+    let mut cases: Vec<Case> = tables()
+        .flat_map(|(places, fill)| whole_calls(places, fill))
+        .collect();
+    cases.extend(tables().map(|(places, fill)| scan(places, fill)));
+    cases.push(long_packet());
+    cases
+}
+
+/// Of one place, every second is the same as all.
+fn fills(places: usize) -> &'static [Fill] {
+    match places {
+        1 => &[Fill::Free, Fill::Live],
+        _ => &[Fill::Free, Fill::Half, Fill::Live],
+    }
+}
+
+fn whole_calls(places: usize, fill: Fill) -> Vec<Case> {
+    let named = |word: &str| format!("call/{places}/{}/{word}", fill.name());
+    let table = fill.table(places);
+    let passed = |word, place: usize| Case {
+        name: named(word),
+        table: table.clone(),
+        packet: data(place).packet(),
+        answer: 0,
+        place: place as u32,
+        opens: false,
+    };
+    let mut cases = match fill.live_places(places)[..] {
+        [] => vec![Case {
+            packet: opening().packet(),
+            opens: true,
+            ..passed("open", 0)
+        }],
+        [only] => vec![passed("first", only)],
+        [first, .., last] => vec![passed("first", first), passed("last", last)],
+    };
+    cases.push(Case {
+        packet: data(places).packet(),
+        ..blocked(named("none"), table.clone(), 11)
+    });
+    cases
+}
+
+/// An empty packet is refused as soon as the table has been found sound.
+fn scan(places: usize, fill: Fill) -> Case {
+    let name = format!("scan/{places}/{}", fill.name());
+    blocked(name, fill.table(places), 5)
+}
+
+fn long_packet() -> Case {
+    let draft = Draft {
+        header: LONG_HEADER,
+        total: 1500,
+        ..data(0)
+    };
+    Case {
+        packet: draft.packet(),
+        ..blocked("packet/1500".to_string(), Fill::Free.table(1), 11)
+    }
+}
+
+fn blocked(name: String, table: Vec<u8>, answer: u32) -> Case {
+    Case {
+        name,
+        table,
+        packet: Vec::new(),
+        answer,
+        place: NO_PLACE,
+        opens: false,
+    }
+}
+
+/// Passes again and again: from the second time on it changes nothing more.
+fn data(connection: usize) -> Draft {
+    Draft {
+        names: names(connection),
+        flags: ACK,
+        sequence: OPENER_END,
+        acknowledgement: ANSWERER_END,
+        header: SHORT_HEADER,
+        total: 2 * SHORT_HEADER + PAYLOAD,
+    }
+}
+
+fn opening() -> Draft {
+    Draft {
+        flags: SYN,
+        total: 2 * SHORT_HEADER,
+        ..data(0)
+    }
+}
