@@ -2,6 +2,7 @@
 ghost use mathlib.Core.Path.{_≡_};
 ghost use Prim.Native.Nat.{_+_, _*_, _≤_};
 ghost use Rattle.filter.specs.Call.{outcomeOf, replyOf, tableAfter};
+ghost use Rattle.quaybonnet.specs.Lines.{reading, packetAfterReading, writing, lineAfterWriting};
 ghost use Rattle.quaybonnet.specs.Packed.{packed};
 
 // The answer and the place as one number.
@@ -19,4 +20,49 @@ pub extern "C" fn qb_filter(side: u8, clock: u64, table: &mut [u8], packet: &[u8
 {
     let reply = filter::filter(side, clock, table, packet);
     pack(reply.answer, reply.place)
+}
+
+// Reads a trace line: 0, 21, 22 or 23. The four numbers are stored on every answer.
+#[no_mangle]
+pub extern "C" fn qb_read_line(
+    line: &[u8],
+    packet: &mut [u8],
+    side: &mut u8,
+    clock: &mut u64,
+    length: &mut usize,
+    offset: &mut usize,
+) -> u32
+    ensures { λ r. let a = reading (now (line .entry)) (now (packet .entry)) in
+        ⌜ (r ≡ a .number)
+        × (now (side .exit) ≡ a .side)
+        × (now (clock .exit) ≡ a .clock)
+        × (now (length .exit) ≡ a .length)
+        × (now (offset .exit) ≡ a .offset)
+        × (now (packet .exit) ≡ packetAfterReading (now (line .entry)) (now (packet .entry))) ⌝ }
+{
+    let read = trace::read_line(line, packet).answer();
+    *side = read.side;
+    *clock = read.clock;
+    *length = read.length;
+    *offset = read.offset;
+    read.number
+}
+
+// Writes a packet as a trace line: 0, 1, 2, 24 or 23. The length is stored on every answer.
+#[no_mangle]
+pub extern "C" fn qb_write_line(
+    side: u8,
+    clock: u64,
+    packet: &[u8],
+    line: &mut [u8],
+    length: &mut usize,
+) -> u32
+    ensures { λ r. let a = writing side clock (now (packet .entry)) (now (line .entry)) in
+        ⌜ (r ≡ a .number)
+        × (now (length .exit) ≡ a .length)
+        × (now (line .exit) ≡ lineAfterWriting side clock (now (packet .entry)) (now (line .entry))) ⌝ }
+{
+    let written = trace::write_line(side, clock, packet, line).answer();
+    *length = written.length;
+    written.number
 }

@@ -1,0 +1,154 @@
+//! Runs document 01's example through the library: each line is read, the filter asked of its packet,
+//! and the packet written back as a line.
+
+/// The library's functions. They are safe to call on references, which are never null, point to as
+/// many bytes as their lengths say, and of which no `&mut` overlaps another.
+mod quaybonnet {
+    mod c {
+        extern "C" {
+            pub fn qb_filter(
+                side: u8,
+                clock: u64,
+                table: *mut u8,
+                table_len: usize,
+                packet: *const u8,
+                packet_len: usize,
+            ) -> u32;
+            pub fn qb_read_line(
+                line: *const u8,
+                line_len: usize,
+                packet: *mut u8,
+                room: usize,
+                side: *mut u8,
+                clock: *mut u64,
+                length: *mut usize,
+                offset: *mut usize,
+            ) -> u32;
+            pub fn qb_write_line(
+                side: u8,
+                clock: u64,
+                packet: *const u8,
+                packet_len: usize,
+                line: *mut u8,
+                room: usize,
+                length: *mut usize,
+            ) -> u32;
+        }
+    }
+
+    pub const MOST_PACKET_BYTES: usize = 2048;
+    pub const MOST_LINE_CHARACTERS: usize = 4111;
+
+    /// The length in bytes of a table with so many places, 1 to 512.
+    pub const fn table_length(places: usize) -> usize {
+        64 * (places + 1)
+    }
+
+    /// The answer and, on answer 0, the place.
+    pub fn filter(side: u8, clock: u64, table: &mut [u8], packet: &[u8]) -> (u32, Option<u32>) {
+        let result = unsafe {
+            c::qb_filter(
+                side,
+                clock,
+                table.as_mut_ptr(),
+                table.len(),
+                packet.as_ptr(),
+                packet.len(),
+            )
+        };
+        let (answer, place) = (result / 65536, result % 65536);
+        (answer, (place != 65535).then_some(place))
+    }
+
+    /// What a line says; the packet stands at the start of the output.
+    pub struct Frame<'a> {
+        pub side: u8,
+        pub clock: u64,
+        pub packet: &'a [u8],
+    }
+
+    /// Why a line was not read: 21, 22 with the offset, or 23.
+    pub struct Unread {
+        pub number: u32,
+        pub offset: usize,
+    }
+
+    pub fn read_line<'a>(line: &[u8], output: &'a mut [u8]) -> Result<Frame<'a>, Unread> {
+        let (mut side, mut clock, mut length, mut offset) = (0, 0, 0, 0);
+        let number = unsafe {
+            c::qb_read_line(
+                line.as_ptr(),
+                line.len(),
+                output.as_mut_ptr(),
+                output.len(),
+                &mut side,
+                &mut clock,
+                &mut length,
+                &mut offset,
+            )
+        };
+        if number != 0 {
+            return Err(Unread { number, offset });
+        }
+        let packet = &output[..length];
+        Ok(Frame {
+            side,
+            clock,
+            packet,
+        })
+    }
+
+    /// The line, which stands at the start of the output; or the refusal 1, 2, 24 or 23.
+    pub fn write_line<'a>(frame: &Frame, output: &'a mut [u8]) -> Result<&'a [u8], u32> {
+        let mut length = 0;
+        let number = unsafe {
+            c::qb_write_line(
+                frame.side,
+                frame.clock,
+                frame.packet.as_ptr(),
+                frame.packet.len(),
+                output.as_mut_ptr(),
+                output.len(),
+                &mut length,
+            )
+        };
+        if number != 0 {
+            return Err(number);
+        }
+        Ok(&output[..length])
+    }
+}
+
+const TRACE: [&str; 3] = [
+    "0 000000000000 4500002800000000400666ce0a0000010a000002040000500000006400000000500203e893440000",
+    "1 000000000064 4500002800000000400666ce0a0000020a00000100500400000001f400000065501207d08d570000",
+    "0 0000000000c8 4500002800000000400666ce0a0000010a0000020400005000000065000001f6501003e8913f0000",
+];
+
+fn main() -> Result<(), String> {
+    // Zeros: a fresh table.
+    let mut table = [0; quaybonnet::table_length(64)];
+    let mut passed = 0;
+    for line in TRACE {
+        let mut packet = [0; quaybonnet::MOST_PACKET_BYTES];
+        let frame = quaybonnet::read_line(line.as_bytes(), &mut packet).map_err(|unread| {
+            format!("not read, {} at {}: {line}", unread.number, unread.offset)
+        })?;
+
+        let (answer, place) = quaybonnet::filter(frame.side, frame.clock, &mut table, frame.packet);
+        match place {
+            Some(place) => println!("{answer} {place}"),
+            None => println!("{answer} -"),
+        }
+        passed += u32::from(answer == 0);
+
+        let mut again = [0; quaybonnet::MOST_LINE_CHARACTERS];
+        let again = quaybonnet::write_line(&frame, &mut again)
+            .map_err(|number| format!("not written back, {number}: {line}"))?;
+        if again != line.as_bytes() {
+            return Err(format!("written back as another line: {line}"));
+        }
+    }
+    println!("passed {passed} of {}", TRACE.len());
+    Ok(())
+}
