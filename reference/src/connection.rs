@@ -168,6 +168,7 @@ impl Connection {
     /// [...] FIN bits 0 in stages 1 to 3, 1 or 2 in stage 4, 3 in stage 5;
     /// deadline at most header clock plus 432,000,000; [...] in stage 1 the
     /// opener's edge equals its end and the answerer has 0, 0, 1."
+    #[inline]
     pub fn is_sound(&self, header_clock: u64) -> bool {
         let fins_fit = match self.stage {
             1..=3 => self.fins == 0,
@@ -196,7 +197,7 @@ impl Connection {
             self.in_stage_1(sender, segment)?
         } else {
             self.check_ranges(sender, segment)?;
-            self.from_stage_2(sender, segment)
+            self.in_later_stage(sender, segment)
         };
         // "A passed RST, in any stage, frees the entry (64 zeros)."
         if segment.has(RST) {
@@ -277,7 +278,7 @@ impl Connection {
 
     /// What a pass from stage 2 on writes, without the deadline. "a passed FIN
     /// sets its sender's bit."
-    fn from_stage_2(&self, sender: usize, segment: &Segment) -> Connection {
+    fn in_later_stage(&self, sender: usize, segment: &Segment) -> Connection {
         let mut ends = self.ends;
         ends[sender] = ends[sender].sent(segment);
         ends[1 - sender] = ends[1 - sender].received(segment);

@@ -127,19 +127,26 @@ fn octets(flags: u8, payload: &[u8]) -> u32 {
 /// RFC 791, "Header Checksum": the 16-bit words added, each carry out of the
 /// top added at the bottom. A header is a whole number of words.
 fn ones_complement_sum(header: &[u8]) -> u16 {
-    header.chunks_exact(2).fold(0, |sum: u16, word| {
-        let (sum, carry) = sum.overflowing_add(u16_at(word, 0));
-        sum + u16::from(carry)
-    })
+    let words = header.chunks_exact(2).map(|word| u16_at(word, 0));
+    // The carries may be added at the end (RFC 1071, section 2).
+    let mut sum: u32 = words.map(u32::from).sum();
+    while sum > 0xffff {
+        sum = (sum >> 16) + (sum & 0xffff);
+    }
+    sum as u16
 }
 
 /// Network order: the first byte is the highest.
+#[inline]
 fn u16_at(bytes: &[u8], offset: usize) -> u16 {
-    u16::from_be_bytes([bytes[offset], bytes[offset + 1]])
+    let bytes = &bytes[offset..offset + 2];
+    u16::from_be_bytes(bytes.try_into().expect("two bytes"))
 }
 
+#[inline]
 fn u32_at(bytes: &[u8], offset: usize) -> u32 {
-    u32::from(u16_at(bytes, offset)) << 16 | u32::from(u16_at(bytes, offset + 2))
+    let bytes = &bytes[offset..offset + 4];
+    u32::from_be_bytes(bytes.try_into().expect("four bytes"))
 }
 
 #[cfg(test)]

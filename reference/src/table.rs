@@ -71,6 +71,7 @@ impl Names {
 }
 
 impl Entry {
+    #[inline]
     fn of_words(words: &Words) -> Entry {
         let [opener, answerer] = [
             [high(words[3]), low(words[3]), high(words[4])],
@@ -121,20 +122,22 @@ pub fn length_allowed(length: usize) -> bool {
 /// free or with [...]". The length is an allowed one.
 pub fn is_sound(table: &[u8]) -> bool {
     let (header, entries) = table.split_at(ENTRY);
-    let [clock, rest @ ..] = words(header);
+    let clock = word(header, 0);
     clock < CLOCK_LIMIT
-        && all_zero(&rest)
+        && all_zero(&header[WORD..])
         && entries
             .chunks_exact(ENTRY)
-            .all(|entry| entry_is_sound(&words(entry), clock))
+            .all(|entry| entry_is_sound(entry, clock))
 }
 
 /// "every entry either free or with stage 1 to 5, [...] zero bytes zero, [...]"
-fn entry_is_sound(words: &Words, header_clock: u64) -> bool {
-    if all_zero(words) {
+#[inline]
+fn entry_is_sound(entry: &[u8], header_clock: u64) -> bool {
+    if all_zero(entry) {
         return true;
     }
-    let held = Entry::of_words(words).connection;
+    let words = words(entry);
+    let held = Entry::of_words(&words).connection;
     // Stage 0 would be a free connection, but the entry is not one: some byte
     // of it is not zero.
     held.stage != 0
@@ -142,8 +145,13 @@ fn entry_is_sound(words: &Words, header_clock: u64) -> bool {
         && held.is_sound(header_clock)
 }
 
-fn all_zero(words: &[u64]) -> bool {
-    words.iter().fold(0, |bits, word| bits | word) == 0
+/// Whole words, in whatever order their bytes are.
+#[inline]
+fn all_zero(bytes: &[u8]) -> bool {
+    let words = bytes.chunks_exact(WORD);
+    words.fold(0, |bits, word| {
+        bits | u64::from_ne_bytes(word.try_into().expect("a word has eight bytes"))
+    }) == 0
 }
 
 /// The header's clock.
@@ -226,10 +234,12 @@ fn bytes_of(place: usize) -> std::ops::Range<usize> {
     ENTRY * (place + 1)..ENTRY * (place + 2)
 }
 
+#[inline]
 fn words(bytes: &[u8]) -> Words {
     std::array::from_fn(|index| word(bytes, index))
 }
 
+#[inline]
 fn word(bytes: &[u8], index: usize) -> u64 {
     let bytes = &bytes[WORD * index..WORD * (index + 1)];
     u64::from_be_bytes(bytes.try_into().expect("a word has eight bytes"))
