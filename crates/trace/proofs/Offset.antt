@@ -2,7 +2,7 @@
 use Prim.Native.Nat.{ℕ, _+_, _≤_, _<_}
 use mathlib.Core.Path.{_≡_, sym, ap, _∙_}
 use mathlib.Core.Bool.{true}
-use mathlib.Core.Logic.{_↔_, ⊎-elim}
+use mathlib.Core.Logic.{⊎-elim}
 use mathlib.Core.List.{List, _++_}
 use native.Mathlib.Omega.{arith}
 use native.Mathlib.Nat.{zero-add}
@@ -10,7 +10,7 @@ use lib.ListN.{length, getD, take, drop, length-append, length-take, length-drop
 use lib.Seq.{length-take-le, getD-take, getD-drop, take-append-seam}
 use Rattle.trace.specs.Line.{mayStand, LegalLine, packetLength, lineOf}
 use Rattle.trace.specs.Read.{firstIllegal, wellFormed, readLine}
-use Rattle.trace.specs.Offset.{Begins}
+use Rattle.trace.specs.Offset.{PossibleBefore, ImpossibleAt, RefusedBy22}
 use Rattle.trace.specs.declared.LineRead.the-variants.{Malformed}
 use Rattle.choice.proofs.Tests.{true-or-false, lt-or-ge, false-true}
 use Rattle.trace.proofs.Each.{Each, each-append, each-getD}
@@ -64,7 +64,7 @@ pub offset-within : (l : List ℕ) → firstIllegal l ≤ length l
 offset-within l = firstIllegal≤length l
 
 -- a legal line begins with the bytes before the offset
-pub possible-before : (l : List ℕ) → length l ≤ 4111 → Begins (take (firstIllegal l) l)
+pub possible-before : PossibleBefore
 possible-before l short =
     let m = lineOf 0 0 (replicate 2048 0) in
     let legal = zeros-legal 2048 (omega arith) (omega arith) in
@@ -77,7 +77,7 @@ possible-before l short =
     }
 
 -- no legal line begins with these bytes and the one at the offset
-pub impossible-at : (l : List ℕ) → firstIllegal l < length l → Begins (take (firstIllegal l + 1) l) → ⊥
+pub impossible-at : ImpossibleAt
 impossible-at l inside b =
     let k = firstIllegal l in
     let size : length (take (k + 1) l) ≡ k + 1 = length-take-le (k + 1) l (omega arith) in
@@ -88,7 +88,7 @@ impossible-at l inside b =
     false-true (sym (firstIllegal-here l inside) ∙ ap (mayStand k) (sym byte) ∙ b .legal .each k long)
 
 -- a line that is not too long is refused by 22, with this offset, where it is not legal and only there
-pub refused-22 : (l : List ℕ) (room : ℕ) → length l ≤ 4111 → ((n : ℕ) → LegalLine l n → ⊥) ↔ (readLine l room ≡ Malformed (firstIllegal l))
+pub refused-22 : RefusedBy22
 refused-22 l room short = (
   λ none. ⊎-elim (λ (e : wellFormed l ≡ true). absurd (none (packetLength l) (wellFormed-legal l short e)))
       (readLine-malformed l room short) (true-or-false (wellFormed l)),

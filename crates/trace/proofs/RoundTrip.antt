@@ -8,7 +8,7 @@ use Rattle.octets.proofs.Overwrite.{overwrite-there}
 use Rattle.trace.specs.Line.{LegalLine, LegalValues, sideOf, clockOf, packetOf, lineOf}
 use Rattle.trace.specs.Read.{packetAfter}
 use Rattle.trace.specs.Write.{lineAfter}
-use Rattle.trace.specs.RoundTrip.{charactersWritten, bytesRead, ReadWritten, WriteRead}
+use Rattle.trace.specs.RoundTrip.{charactersWritten, bytesRead, ReadingUndoesWriting, WritingUndoesReading}
 use Rattle.trace.proofs.Line.{length-lineOf, sideOf-lineOf, clockOf-lineOf, packetOf-lineOf, lineOf-legal, length-packetOf, lineOf-legal-line, legal-line-values}
 use Rattle.trace.proofs.Read.{readLine-legal}
 use Rattle.trace.proofs.Write.{writeLine-legal}
@@ -31,7 +31,7 @@ bytesRead-legal l n out legal fits =
 -- The theorems
 
 -- what is written is read back
-pub read-written : (side clock : ℕ) (packet line out : List ℕ) → LegalValues side clock packet → 15 + 2 * length packet ≤ length line → length packet ≤ length out → ReadWritten side clock packet line out
+pub read-written : ReadingUndoesWriting
 read-written side clock packet line out legal room fits =
     let lined = lineOf-legal side clock packet legal in
     let stands = charactersWritten-legal side clock packet line legal room in
@@ -46,7 +46,7 @@ read-written side clock packet line out legal room fits =
     }
 
 -- what is read is written back
-pub write-read : (l : List ℕ) (n : ℕ) (out line : List ℕ) → LegalLine l n → n ≤ length out → length l ≤ length line → WriteRead l n out line
+pub write-read : WritingUndoesReading
 write-read l n out line legal fits room =
     let said = legal-line-values l n legal in
     let size : 15 + 2 * length (packetOf l) ≡ length l = rw (length-packetOf l n legal) (sym (legal .whole)) in

@@ -44,9 +44,15 @@ packetAfter (Malformed offset) l out = out
 packetAfter NoRoom l out = out
 packetAfter (Frame side clock n) l out = overwrite out 0 (packetOf l)
 
--- document 01's number and values for each case; it leaves the offset of a frame free: 0 here
+-- Document 01's numbers
+
+-- its number and values for each case; it leaves the offset of a frame free: 0 here
 unfoldable pub readAnswer : LineRead → ReadAnswer
 readAnswer TooLong = record { number = 21; side = 0; clock = 0; length = 0; offset = 0 }
 readAnswer (Malformed offset) = record { number = 22; side = 0; clock = 0; length = 0; offset = offset }
 readAnswer NoRoom = record { number = 23; side = 0; clock = 0; length = 0; offset = 0 }
 readAnswer (Frame side clock n) = record { number = 0; side = side; clock = clock; length = n; offset = 0 }
+
+-- the answer to reading `line` to `packet`: number, side, clock, length and offset
+abbrev pub reading : List ℕ → List ℕ → ReadAnswer
+reading line packet = readAnswer (readLine line (length packet))

@@ -1,9 +1,9 @@
 -- What it means that reading undoes writing, and writing undoes reading (document 00, demand 2).
-use Prim.Native.Nat.{ℕ, _+_, _*_}
+use Prim.Native.Nat.{ℕ, _+_, _*_, _≤_}
 use mathlib.Core.Path.{_≡_}
 use mathlib.Core.List.{List}
 use lib.ListN.{length, take}
-use Rattle.trace.specs.Line.{sideOf, clockOf}
+use Rattle.trace.specs.Line.{LegalLine, LegalValues, sideOf, clockOf}
 use Rattle.trace.specs.Read.{readLine, packetAfter}
 use Rattle.trace.specs.Write.{writeLine, lineAfter}
 use Rattle.trace.specs.declared.LineRead.the-variants.{Frame}
@@ -28,3 +28,13 @@ pub record WriteRead (l : List ℕ) (n : ℕ) (out line : List ℕ) : Type 0 whe
   pub frame : readLine l (length out) ≡ Frame (sideOf l) (clockOf l) n
   pub written : writeLine (sideOf l) (clockOf l) (length (bytesRead n l out)) (length line) ≡ Written (length l)
   pub characters : charactersWritten (length l) (sideOf l) (clockOf l) (bytesRead n l out) line ≡ l
+
+-- for legal values with room, reading what was written gives the same side, clock and packet
+abbrev pub ReadingUndoesWriting : Type 0
+ReadingUndoesWriting =
+    (side clock : ℕ) (packet line out : List ℕ) → LegalValues side clock packet → 15 + 2 * length packet ≤ length line → length packet ≤ length out →
+    ReadWritten side clock packet line out
+
+-- for every legal line with room, writing what was read gives the same line
+abbrev pub WritingUndoesReading : Type 0
+WritingUndoesReading = (l : List ℕ) (n : ℕ) (out line : List ℕ) → LegalLine l n → n ≤ length out → length l ≤ length line → WriteRead l n out line

@@ -27,10 +27,16 @@ lineAfter PacketLength side clock packet out = out
 lineAfter NoSpace side clock packet out = out
 lineAfter (Written n) side clock packet out = overwrite out 0 (lineOf side clock packet)
 
--- document 01's number and length for each case
+-- Document 01's numbers
+
+-- its number and length for each case
 unfoldable pub writeAnswer : LineWrite → WriteAnswer
 writeAnswer UnknownSide = record { number = 1; length = 0 }
 writeAnswer ClockTooLarge = record { number = 2; length = 0 }
 writeAnswer PacketLength = record { number = 24; length = 0 }
 writeAnswer NoSpace = record { number = 23; length = 0 }
 writeAnswer (Written n) = record { number = 0; length = n }
+
+-- the answer to writing side, clock and packet to `line`: number and length
+abbrev pub writing : ℕ → ℕ → List ℕ → List ℕ → WriteAnswer
+writing side clock packet line = writeAnswer (writeLine side clock (length packet) (length line))

@@ -6,8 +6,8 @@ ghost use Rattle.octets.specs.Overwrite.{overwrite};
 ghost use Rattle.trace.specs.Hex.{isHex, hexValue, hexDigit, hexNumber, hexDigits, hexPairs};
 ghost use Rattle.trace.specs.Line.{mayStand, packetLength, packetOf, lineOf};
 ghost use mathlib.Core.Bool.{true};
-ghost use Rattle.trace.specs.Read.{illegalFrom, firstIllegal, HexFrom, readLine, packetAfter, readAnswer};
-ghost use Rattle.trace.specs.Write.{writeLine, lineAfter, writeAnswer};
+ghost use Rattle.trace.specs.Read.{illegalFrom, firstIllegal, HexFrom, readLine, packetAfter, readAnswer, reading};
+ghost use Rattle.trace.specs.Write.{writeLine, lineAfter, writeAnswer, writing};
 
 // What reading a line finds.
 pub enum LineRead {
@@ -243,7 +243,10 @@ fn read_packet(line: &[u8], n: usize, packet: &mut [u8])
 
 // Reads a line into packet.
 pub fn read_line(line: &[u8], packet: &mut [u8]) -> LineRead
-    ensures { λ r. ⌜ (r ≡ readLine (now (line .entry)) (length (now (packet .entry)))) × (now (packet .exit) ≡ packetAfter r (now (line .entry)) (now (packet .entry))) ⌝ }
+    ensures { λ r.
+        ⌜ (r ≡ readLine (now (line .entry)) (length (now (packet .entry))))
+        × (now (packet .exit) ≡ packetAfter r (now (line .entry)) (now (packet .entry)))
+        × (readAnswer r ≡ reading (now (line .entry)) (now (packet .entry))) ⌝ }
 {
     let len = line.len();
     if 4111 < len {
@@ -313,7 +316,10 @@ fn write_fields(side: u8, clock: u64, packet: &[u8], line: &mut [u8])
 
 // Writes the line of a packet.
 pub fn write_line(side: u8, clock: u64, packet: &[u8], line: &mut [u8]) -> LineWrite
-    ensures { λ r. ⌜ (r ≡ writeLine side clock (length (now (packet .entry))) (length (now (line .entry)))) × (now (line .exit) ≡ lineAfter r side clock (now (packet .entry)) (now (line .entry))) ⌝ }
+    ensures { λ r.
+        ⌜ (r ≡ writeLine side clock (length (now (packet .entry))) (length (now (line .entry))))
+        × (now (line .exit) ≡ lineAfter r side clock (now (packet .entry)) (now (line .entry)))
+        × (writeAnswer r ≡ writing side clock (now (packet .entry)) (now (line .entry))) ⌝ }
 {
     let n = packet.len();
     if 1 < side {

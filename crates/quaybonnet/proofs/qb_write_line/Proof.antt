@@ -1,7 +1,7 @@
 -- The numbers are those of the answer, field by field; the bytes are those that `trace` leaves.
 use mathlib.Core.Path.{ap, _∙_}
 use borrow.Author.Needs.{needs}
-use Rattle.trace.specs.Write.{lineAfter, writeAnswer}
+use Rattle.trace.specs.Write.{lineAfter}
 use Rattle.trace.specs.declared.LineWrite.{LineWrite}
 use Rattle.trace.specs.declared.WriteAnswer.WriteAnswer.{number, length}
 use Rattle.quaybonnet.proofs.qb_write_line.Statement.{statement}
@@ -20,7 +20,7 @@ returns : tie.Need-returns
 returns c =
     let a = c .before .before .before .before .before .before .before .args in
     let written = c .before .before .before .write-line .ensures in
-    let answer = c .answer .ensures ∙ ap writeAnswer (written .0) in
+    let answer = c .answer .ensures ∙ written .2 in
     (ap number answer, ap length answer, written .1 ∙ ap (λ (r : LineWrite). lineAfter r (a .side) (a .clock) (a .packet .now) (a .line .now)) (written .0))
 
 pub qb-write-line-spec : {M : Type 1} → statement M

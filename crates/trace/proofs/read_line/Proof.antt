@@ -6,7 +6,8 @@ use mathlib.Core.List.{List}
 use native.Mathlib.Omega.{arith}
 use lib.ListN.{length}
 use Rattle.trace.specs.Line.{sideOf, clockOf, packetLength}
-use Rattle.trace.specs.Read.{firstIllegal, wellFormed, readLine, packetAfter}
+use Rattle.trace.specs.Read.{firstIllegal, wellFormed, readLine, packetAfter, readAnswer, reading}
+use Rattle.trace.specs.declared.LineRead.{LineRead}
 use Rattle.trace.specs.declared.LineRead.the-variants.{Malformed, Frame}
 use Rattle.trace.proofs.Line.{sideOf-legal}
 use Rattle.trace.proofs.Read.{wellFormed-true, illegal-malformed, short-malformed, even-malformed, wellFormed-legal, readLine-too-long, readLine-malformed, readLine-no-room, readLine-frame}
@@ -18,6 +19,10 @@ malformed : (l out : List ℕ) (offset : ℕ) → offset ≡ firstIllegal l → 
 unfolding packetAfter
 malformed l out offset e short bad = (ap Malformed e ∙ sym (readLine-malformed l (length out) short bad), refl)
 
+-- with document 01's numbers
+told : (l out : List ℕ) {r : LineRead} {after : List ℕ} → (r ≡ readLine l (length out)) × (after ≡ packetAfter r l out) → (r ≡ readLine l (length out)) × (after ≡ packetAfter r l out) × (readAnswer r ≡ reading l out)
+told l out p = (p .0, p .1, ap readAnswer (p .0))
+
 well-formed : (c : tie.Else4) → wellFormed (c .before .before .before .before .before .before .before .args .line .now) ≡ true
 well-formed c =
     wellFormed-true (c .before .before .before .before .before .before .before .args .line .now) (sym (c .before .before .before .first-illegal .ensures) ∙ c .before .before .if2 .left) (c .before .if3 .left) (c .if4 .left)
@@ -26,7 +31,7 @@ returns : tie.Need-returns
 unfolding packetAfter
 returns c =
     let a = c .before .before .before .args in
-    (sym (readLine-too-long (a .line .now) (length (a .packet .now)) (c .if1 .taken)), refl)
+    told (a .line .now) (a .packet .now) (sym (readLine-too-long (a .line .now) (length (a .packet .now)) (c .if1 .taken)), refl)
 
 first-illegal-requires : tie.Need-first-illegal-requires
 first-illegal-requires c κs = search needs
@@ -35,17 +40,17 @@ returns-2 : tie.Need-returns-2
 returns-2 c =
     let a = c .before .before .before .before .before .args in
     let e = c .before .first-illegal .ensures in
-    malformed (a .line .now) (a .packet .now) _ e (omega arith) (illegal-malformed (a .line .now) (λ f. c .if2 .taken (e ∙ f)))
+    told (a .line .now) (a .packet .now) (malformed (a .line .now) (a .packet .now) _ e (omega arith) (illegal-malformed (a .line .now) (λ f. c .if2 .taken (e ∙ f))))
 
 returns-3 : tie.Need-returns-3
 returns-3 c =
     let a = c .before .before .before .before .before .before .args in
-    malformed (a .line .now) (a .packet .now) _ (c .before .before .first-illegal .ensures) (omega arith) (short-malformed (a .line .now) (omega arith))
+    told (a .line .now) (a .packet .now) (malformed (a .line .now) (a .packet .now) _ (c .before .before .first-illegal .ensures) (omega arith) (short-malformed (a .line .now) (omega arith)))
 
 returns-4 : tie.Need-returns-4
 returns-4 c =
     let a = c .before .before .before .before .before .before .before .args in
-    malformed (a .line .now) (a .packet .now) _ (c .before .before .before .first-illegal .ensures) (omega arith) (even-malformed (a .line .now) (c .if4 .taken))
+    told (a .line .now) (a .packet .now) (malformed (a .line .now) (a .packet .now) _ (c .before .before .before .first-illegal .ensures) (omega arith) (even-malformed (a .line .now) (c .if4 .taken)))
 
 sub-n : tie.Need-sub-n
 sub-n c = search needs
@@ -54,7 +59,7 @@ returns-5 : tie.Need-returns-5
 unfolding packetAfter packetLength
 returns-5 c =
     let a = c .before .before .before .before .before .before .before .before .args in
-    (sym (readLine-no-room (a .line .now) (length (a .packet .now)) (omega arith) (well-formed (c .before)) (c .if5 .taken)), refl)
+    told (a .line .now) (a .packet .now) (sym (readLine-no-room (a .line .now) (length (a .packet .now)) (omega arith) (well-formed (c .before)) (c .if5 .taken)), refl)
 
 shared-slice-read-side : tie.Need-shared-slice-read-side
 shared-slice-read-side c = search needs
@@ -77,7 +82,7 @@ same-length c = search needs
 returns-6 : tie.Need-returns-6
 unfolding packetAfter packetLength sideOf clockOf
 returns-6 c =
-    let a = c .before .before .before .before .before .before .before .before .before .before .before .before .before .before .args in (
+    let a = c .before .before .before .before .before .before .before .before .before .before .before .before .before .before .args in told (a .line .now) (a .packet .now) (
       ap (λ (k : ℕ). Frame (sideOf (a .line .now)) k (packetLength (a .line .now))) (c .before .before .before .before .hex-number .ensures .0)
           ∙ sym (readLine-frame (a .line .now) (length (a .packet .now)) (omega arith) (well-formed (c .before .before .before .before .before .before .before)) (omega arith)),
       c .before .before .read-packet .ensures,

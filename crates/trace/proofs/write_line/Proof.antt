@@ -1,26 +1,32 @@
 -- Each test of the code is a line of `writeLine`, and past the last one the line fits.
-use Prim.Native.Nat.{_+_, _*_, _^_}
-use mathlib.Core.Path.{refl, sym, _∙_}
+use Prim.Native.Nat.{ℕ, _+_, _*_, _^_}
+use mathlib.Core.Path.{_≡_, refl, sym, ap, _∙_}
+use mathlib.Core.List.{List}
 use native.Mathlib.Omega.{arith}
 use lib.ListN.{length}
 use borrow.Author.Tests.{lt-ltb, le-ltb, le-leb, lt-leb, eq-eqb, ne-eqb}
 use Rattle.choice.proofs.Choice.{if-true, if-false}
-use Rattle.trace.specs.Write.{writeLine, lineAfter}
+use Rattle.trace.specs.Write.{writeLine, lineAfter, writeAnswer, writing}
+use Rattle.trace.specs.declared.LineWrite.{LineWrite}
 use Rattle.trace.proofs.Write.{writeLine-written}
 use borrow.Author.Needs.{needs}
 use Rattle.trace.proofs.write_line.Statement.{statement}
 use Rattle.trace.proofs.write_line.Tie as tie
 
+-- with document 01's numbers
+told : (side clock : ℕ) (packet line : List ℕ) {r : LineWrite} {after : List ℕ} → (r ≡ writeLine side clock (length packet) (length line)) × (after ≡ lineAfter r side clock packet line) → (r ≡ writeLine side clock (length packet) (length line)) × (after ≡ lineAfter r side clock packet line) × (writeAnswer r ≡ writing side clock packet line)
+told side clock packet line p = (p .0, p .1, ap writeAnswer (p .0))
+
 returns : tie.Need-returns
 unfolding writeLine lineAfter
 returns c =
     let a = c .before .before .before .args in
-    (sym (if-true _ _ _ (lt-ltb 1 (a .side) (c .if1 .taken))), refl)
+    told (a .side) (a .clock) (a .packet .now) (a .line .now) (sym (if-true _ _ _ (lt-ltb 1 (a .side) (c .if1 .taken))), refl)
 
 returns-2 : tie.Need-returns-2
 unfolding writeLine lineAfter
 returns-2 c =
-    let a = c .before .before .before .before .args in (
+    let a = c .before .before .before .before .args in told (a .side) (a .clock) (a .packet .now) (a .line .now) (
       sym (if-false _ _ _ (le-ltb 1 (a .side) (omega arith))
           ∙ if-true _ _ _ (le-leb (2 ^ 48) (a .clock) (c .if2 .taken))),
       refl,
@@ -30,7 +36,7 @@ returns-3 : tie.Need-returns-3
 unfolding writeLine lineAfter
 returns-3 c =
     let a = c .before .before .before .before .before .args in
-    let n = length (a .packet .now) in (
+    let n = length (a .packet .now) in told (a .side) (a .clock) (a .packet .now) (a .line .now) (
       sym (if-false _ _ _ (le-ltb 1 (a .side) (omega arith))
           ∙ if-false _ _ _ (lt-leb (2 ^ 48) (a .clock) (omega arith))
           ∙ if-true _ _ _ (eq-eqb n 0 (c .if3 .taken))),
@@ -41,7 +47,7 @@ returns-4 : tie.Need-returns-4
 unfolding writeLine lineAfter
 returns-4 c =
     let a = c .before .before .before .before .before .before .args in
-    let n = length (a .packet .now) in (
+    let n = length (a .packet .now) in told (a .side) (a .clock) (a .packet .now) (a .line .now) (
       sym (if-false _ _ _ (le-ltb 1 (a .side) (omega arith))
           ∙ if-false _ _ _ (lt-leb (2 ^ 48) (a .clock) (omega arith))
           ∙ if-false _ _ _ (ne-eqb n 0 (λ e. omega arith))
@@ -59,7 +65,7 @@ returns-5 : tie.Need-returns-5
 unfolding writeLine lineAfter
 returns-5 c =
     let a = c .before .before .before .before .before .before .before .args in
-    let n = length (a .packet .now) in (
+    let n = length (a .packet .now) in told (a .side) (a .clock) (a .packet .now) (a .line .now) (
       sym (if-false _ _ _ (le-ltb 1 (a .side) (omega arith))
           ∙ if-false _ _ _ (lt-leb (2 ^ 48) (a .clock) (omega arith))
           ∙ if-false _ _ _ (ne-eqb n 0 (λ e. omega arith))
@@ -77,7 +83,7 @@ same-length c = search needs
 returns-6 : tie.Need-returns-6
 unfolding lineAfter
 returns-6 c =
-    let a = c .before .before .before .before .before .before .before .before .before .before .before .args in (
+    let a = c .before .before .before .before .before .before .before .before .before .before .before .args in told (a .side) (a .clock) (a .packet .now) (a .line .now) (
       sym (writeLine-written (a .side) (a .clock) (length (a .packet .now)) (length (a .line .now)) (omega arith) (omega arith) (omega arith) (omega arith) (omega arith)),
       c .before .before .write-fields .ensures,
     )
