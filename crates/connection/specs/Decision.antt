@@ -48,6 +48,10 @@ verdictNumber NotAllowed = 13
 verdictNumber SequenceMissed = 14
 verdictNumber AckMissed = 15
 
+-- the answer to a segment of a matched connection: 13, 14, 15 or 0
+abbrev pub answerOn : Connection → ℕ → Segment → ℕ
+answerOn c i g = verdictNumber (verdictOn c i g)
+
 -- What a pass leaves, now being the clock used
 
 -- a freed connection: all zeros

@@ -4,7 +4,7 @@ ghost use Prim.Native.Nat.{_^_, _<_, _≤_};
 ghost use Rattle.connection.specs.Ends.{sent, granted, opening, written};
 ghost use Rattle.connection.specs.Ranges.{sequenceMet, ackRange, ackMet};
 ghost use Rattle.connection.specs.Stages.{longestLife, lifeOf, withFin, finsAfter, openStage, stageAfter};
-ghost use Rattle.connection.specs.Decision.{sameSyn, reply, verdictUnanswered, verdictByRanges, verdictOn, verdictNumber, free, opened, repeated, answered, carried, passed};
+ghost use Rattle.connection.specs.Decision.{sameSyn, reply, verdictUnanswered, verdictByRanges, verdictOn, verdictNumber, answerOn, free, opened, repeated, answered, carried, passed};
 use segment::Segment;
 use serial::OctetCount;
 use serial::SeqNum;
@@ -317,7 +317,7 @@ impl Connection {
     // Rows 13 to 15 and 0 for a segment of the sender: 0 the opener, 1 the answerer.
     pub fn verdict(self, sender: usize, segment: Segment) -> Verdict
         requires { ⌜ sender < 2 ⌝ }
-        ensures { λ r. ⌜ r ≡ verdictOn self sender segment ⌝ }
+        ensures { λ r. ⌜ (r ≡ verdictOn self sender segment) × (verdictNumber r ≡ answerOn self sender segment) ⌝ }
     {
         let stage = self.stage;
         match stage {

@@ -7,6 +7,7 @@ use lib.ListN.{length, getD, set}
 use Rattle.choice.specs.Choice.{if_then_else_, _<ᵇ_, _≤ᵇ_, _=ᵇ_}
 use Rattle.segment.specs.Flags.{isReset, SYN}
 use Rattle.segment.specs.declared.Segment.{Segment}
+use Rattle.connection.specs.Decision.{verdictNumber}
 use Rattle.connection.specs.declared.Verdict.{Verdict}
 use Rattle.connection.specs.declared.Verdict.the-variants.{Pass, NotAllowed, SequenceMissed, AckMissed}
 use Rattle.honest.specs.Keys.{Keys}
@@ -127,9 +128,9 @@ module _ (K : Keys) (B : Bodies) where
 
   abbrev pub byVerdict : Verdict → Table → Ask K → ℕ → Entry → Reply
   byVerdict Pass t a p e = pass t a p e
-  byVerdict NotAllowed t a p e = refuse t 13
-  byVerdict SequenceMissed t a p e = refuse t 14
-  byVerdict AckMissed t a p e = refuse t 15
+  byVerdict NotAllowed t a p e = refuse t (verdictNumber NotAllowed)
+  byVerdict SequenceMissed t a p e = refuse t (verdictNumber SequenceMissed)
+  byVerdict AckMissed t a p e = refuse t (verdictNumber AckMissed)
 
   -- 13 to 15, or the pass, on the matched entry at place p
   unfoldable pub matched : Table → Ask K → ℕ → Reply

@@ -76,3 +76,12 @@ causeNumber OffsetPastTotal = 9
 causeNumber SynFinRst = 10
 causeNumber NoSynAckRst = 10
 causeNumber SynPayload = 10
+
+-- of a refusal; 0 where there is none
+abbrev pub refusalNumber : PacketRead → ℕ
+refusalNumber (Refused cause) = causeNumber cause
+refusalNumber (Tcp f g) = 0
+
+-- the number that a packet is refused with
+abbrev pub packetRefusal : List ℕ → ℕ
+packetRefusal p = refusalNumber (readPacket p)

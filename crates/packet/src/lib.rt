@@ -5,7 +5,7 @@ ghost use lib.ListN.{length, getD};
 ghost use Rattle.segment.specs.Flags.{control};
 ghost use Rattle.packet.specs.Header.{dataOffset, controlBits};
 ghost use Rattle.packet.specs.Sum.{onesSum, wordSum};
-ghost use Rattle.packet.specs.Read.{flowOf, segmentOf, readPacket, causeNumber};
+ghost use Rattle.packet.specs.Read.{flowOf, segmentOf, readPacket, causeNumber, refusalNumber, packetRefusal};
 ghost use Rattle.packet.specs.Tails.{row10, rows9to10, rows6to10};
 use octets::read16;
 use octets::read32;
@@ -214,7 +214,7 @@ fn read_ip(s: &[u8], h: usize, t: usize) -> PacketRead
 
 // Reads the packet in s; bytes past its total length are ignored.
 pub fn read_packet(s: &[u8]) -> PacketRead
-    ensures { λ r. ⌜ r ≡ readPacket (now (s .entry)) ⌝ }
+    ensures { λ r. ⌜ (r ≡ readPacket (now (s .entry))) × (refusalNumber r ≡ packetRefusal (now (s .entry))) ⌝ }
 {
     if s.len() < 20 {
         return PacketRead::Refused(Cause::Short);

@@ -51,7 +51,7 @@ returns c =
     let a = s .before .args in
     let e = a .entry in
     let from = s .sender .ensures .0 in
-    let h = sym (ap (λ (i : ℕ). verdictOn (e .connection) i (a .segment)) from) ∙ sym (k .verdict .ensures) ∙ c .before .before .enum-told .given .1 in
+    let h = sym (ap (λ (i : ℕ). verdictOn (e .connection) i (a .segment)) from) ∙ sym (k .verdict .ensures .0) ∙ c .before .before .enum-told .given .1 in
     c .passed .ensures
     ∙ ap (λ (x : Entry). decided (Passed (a .place) (a .clock) x)) (c .before .entry-after .ensures ∙ ap (λ (i : ℕ). entryAfter e i (a .segment) (a .clock)) from)
     ∙ ap decided (sym (onEntry-by-verdict e (a .place) (a .clock) (a .side) (a .flow) (a .segment) Pass h))
@@ -63,7 +63,7 @@ returns-2 c =
     let a = s .before .args in
     let e = a .entry in
     let from = s .sender .ensures .0 in
-    let h = sym (ap (λ (i : ℕ). verdictOn (e .connection) i (a .segment)) from) ∙ sym (k .verdict .ensures) ∙ c .before .enum-told2 .given .1 in
+    let h = sym (ap (λ (i : ℕ). verdictOn (e .connection) i (a .segment)) from) ∙ sym (k .verdict .ensures .0) ∙ c .before .enum-told2 .given .1 in
     c .blocked .ensures ∙ ap decided (sym (onEntry-by-verdict e (a .place) (a .clock) (a .side) (a .flow) (a .segment) NotAllowed h))
 
 returns-3 : tie.Need-returns-3
@@ -73,7 +73,7 @@ returns-3 c =
     let a = s .before .args in
     let e = a .entry in
     let from = s .sender .ensures .0 in
-    let h = sym (ap (λ (i : ℕ). verdictOn (e .connection) i (a .segment)) from) ∙ sym (k .verdict .ensures) ∙ c .before .enum-told3 .given .1 in
+    let h = sym (ap (λ (i : ℕ). verdictOn (e .connection) i (a .segment)) from) ∙ sym (k .verdict .ensures .0) ∙ c .before .enum-told3 .given .1 in
     c .blocked2 .ensures ∙ ap decided (sym (onEntry-by-verdict e (a .place) (a .clock) (a .side) (a .flow) (a .segment) SequenceMissed h))
 
 returns-4 : tie.Need-returns-4
@@ -83,7 +83,7 @@ returns-4 c =
     let a = s .before .args in
     let e = a .entry in
     let from = s .sender .ensures .0 in
-    let h = sym (ap (λ (i : ℕ). verdictOn (e .connection) i (a .segment)) from) ∙ sym (k .verdict .ensures) ∙ c .before .enum-told4 .given .1 in
+    let h = sym (ap (λ (i : ℕ). verdictOn (e .connection) i (a .segment)) from) ∙ sym (k .verdict .ensures .0) ∙ c .before .enum-told4 .given .1 in
     c .blocked3 .ensures ∙ ap decided (sym (onEntry-by-verdict e (a .place) (a .clock) (a .side) (a .flow) (a .segment) AckMissed h))
 
 pub on-entry-spec : {M : Type 1} → statement M

@@ -32,14 +32,14 @@ returns c =
     let a = k .before .before .before .args in
     c .blocked .ensures
     ∙ ap (λ (n : ℕ). decided (Blocked n)) (c .before .number .ensures)
-    ∙ ap (λ (r : PacketRead). decided (onPacket r (a .table .now) (a .clock) (a .side))) (sym (c .before .before .before .read .given .1) ∙ k .read-packet .ensures)
+    ∙ ap (λ (r : PacketRead). decided (onPacket r (a .table .now) (a .clock) (a .side))) (sym (c .before .before .before .read .given .1) ∙ k .read-packet .ensures .0)
 
 returns-2 : tie.Need-returns-2
 returns-2 c =
     let k = c .before .before .before .before in
     let a = k .before .before .before .args in
     c .on-segment .ensures
-    ∙ ap (λ (r : PacketRead). decided (onPacket r (a .table .now) (a .clock) (a .side))) (sym (c .before .before .read2 .given .1) ∙ k .read-packet .ensures)
+    ∙ ap (λ (r : PacketRead). decided (onPacket r (a .table .now) (a .clock) (a .side))) (sym (c .before .before .read2 .given .1) ∙ k .read-packet .ensures .0)
 
 pub on-packet-spec : {M : Type 1} → statement M
 on-packet-spec =
