@@ -17,7 +17,8 @@ use Rattle.entry.specs.declared.Entry.{Entry}
 use Rattle.honest.specs.Rows as rows
 use Rattle.honest.specs.Machine.{asks}
 use Rattle.honest.specs.IPv4.{Addresses, IPv4}
-use Rattle.demands.specs.Bytes.{Octets, BytesCall, viewEntry, addressesOf, readingOf}
+use Rattle.demands.specs.Octets.{Octets}
+use Rattle.demands.specs.Bytes.{BytesCall, viewEntry, addressesOf, readingOf}
 use Rattle.demands.proofs.Reading.{reading-asks}
 use Rattle.demands.proofs.Outcome.{EndpointsFrom, freed, of-packet, of-entry}
 

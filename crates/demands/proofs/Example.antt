@@ -18,7 +18,9 @@ use Rattle.connection.specs.Ranges.{sequenceMet, ackMet}
 use Rattle.serial.specs.Serial.{further}
 use Rattle.serial.specs.Ring.{wrap, ringPlus, ringMinus, standing}
 use Rattle.choice.specs.Choice.{if_then_else_}
+use Rattle.honest.specs.Marked as marked
 use Rattle.demands.specs.Demands.{freshBytes}
+use Rattle.demands.specs.Packets.{fieldOctets, octetsIn, checksum, payloadOf, ipHeader, tcpHeader, pseudoHeader, packetOf}
 
 abbrev packet1 : List ℕ
 packet1 = 69 ∷ 0 ∷ 0 ∷ 40 ∷ 0 ∷ 0 ∷ 0 ∷ 0 ∷ 64 ∷ 6 ∷ 102 ∷ 206 ∷ 10 ∷ 0 ∷ 0 ∷ 1 ∷ 10 ∷ 0 ∷ 0 ∷ 2 ∷ 4 ∷ 0 ∷ 0 ∷ 80 ∷ 0 ∷ 0 ∷ 0 ∷ 100 ∷ 0 ∷ 0 ∷ 0 ∷ 0 ∷ 80 ∷ 2 ∷ 3 ∷ 232 ∷ 147 ∷ 68 ∷ 0 ∷ 0 ∷ []
@@ -39,3 +41,8 @@ after2 = tableAfter after1 (outcomeOf 1 100 after1 packet2)
 pub example : (replyOf (outcomeOf 0 0 (freshBytes 2) packet1) ≡ record { answer = 0; place = 0 }) × (replyOf (outcomeOf 1 100 after1 packet2) ≡ record { answer = 0; place = 0 }) × (replyOf (outcomeOf 0 200 after2 packet3) ≡ record { answer = 15; place = 65535 })
 unfolding readPacket onesPlus onesSum tabulate number digits overwrite bigEndian octetsOf endBytes marksBytes endpointsBytes numbersBytes entryBytes connectionAt entryAt zerosAt allFrom firstFrom headerClock soundHeader freeAt soundAt soundTable fromOpener fromAnswerer liveMatchAt expiredAt legalLength entryAfter openingEntry senderOf onEntry unmatched onSegment outcomeOf sameSyn reply verdictUnanswered verdictByRanges verdictOn opened repeated answered carried passed sent granted written soundFins soundEnd soundUnanswered soundConnection lifeOf withFin finsAfter openStage stageAfter sequenceMet ackMet further wrap ringPlus ringMinus standing if_then_else_
 example = (refl, refl, refl)
+
+-- these are the bytes that the marked set's calls make, checksums and all
+pub example-packets : (packetOf marked.packet1 ≡ packet1) × (packetOf marked.packet2 ≡ packet2) × (packetOf marked.packet3 ≡ packet3)
+unfolding number digits octetsOf onesPlus onesSum fieldOctets octetsIn checksum payloadOf ipHeader tcpHeader pseudoHeader packetOf
+example-packets = (refl, refl, refl)

@@ -9,3 +9,4 @@ pub mod Sound
 pub mod Keeps
 pub mod Demands
 pub mod Example
+pub mod Witness

@@ -1,9 +1,9 @@
 -- Sound bytes are a sound table, a pass leaves them sound, and an all-zero table is a fresh one.
-use Prim.Native.Nat.{ℕ, zero, suc, _+_, _%_, _/_, _-_, _^_, _≤_, _<_}
+use Prim.Native.Nat.{ℕ, zero, suc, _+_, _%_, _-_, _^_, _≤_, _<_}
 use mathlib.Core.Path.{_≡_, refl, sym, ap, _∙_}
 use mathlib.Core.Logic.{_⊎_, inl, inr, ⊎-elim}
 use mathlib.Core.Bool.{Bool, true, false, _&&_, _||_}
-use mathlib.Core.List.{List, [], _∷_, _++_}
+use mathlib.Core.List.{List, []}
 use native.Mathlib.Omega.{arith}
 use native.Mathlib.Nat.{add-zero, zero-add}
 use lib.ListN.{length, getD, replicate, length-replicate, getD-replicate, List·getD-eq-default}
@@ -31,13 +31,13 @@ use Rattle.entry.proofs.RoundTrip.{getD-overwrite}
 use Rattle.table.specs.Table.{zerosAt, allFrom, headerClock, soundHeader, freeAt, soundAt, soundTable}
 use Rattle.filter.specs.Call.{legalLength, placesIn, freeEntry, tableAfter}
 use Rattle.filter.specs.Outcome.{Passed}
-use Rattle.honest.specs.Rows as rows
 use Rattle.honest.specs.Filter.{connections, SoundTable}
 use Rattle.honest.specs.Typed as honest
 use Rattle.honest.specs.Demand2.{fresh}
 use Rattle.honest.specs.IPv4.{IPv4}
 use Rattle.honest.proofs.SoundKept.{later-sound}
-use Rattle.demands.specs.Bytes.{Octets, SoundBytes, viewEntry, viewOf}
+use Rattle.demands.specs.Octets.{Octets, Bytes, none, cons, append, bytes-octetsOf}
+use Rattle.demands.specs.Bytes.{SoundBytes, viewEntry, viewOf}
 use Rattle.demands.proofs.Frame.{Agree, bigEndian-agree, part-agree, entryAt-agree, getD-overwrite-before, getD-overwrite-after, entry-fits, length-after, placesIn-after, clock-after, header-after, place-same, place-other, entry-same}
 use Rattle.demands.proofs.Entries.{places-viewOf, getD-viewOf}
 use Rattle.demands.proofs.View.{noEntry}
@@ -171,33 +171,6 @@ pub typed-view : {t : List ℕ} → SoundBytes t → honest.TypedTable IPv4 (vie
 typed-view {t} s p h = rw (getD-viewOf t p noEntry (rw (places-viewOf t) at h)) (typed-connectionAt t (placeAt p) (s .octets))
 
 -- Octets
-
--- a list of octets, said so that the list can be told from it
-record Bytes (l : List ℕ) : Type 0 where
-  small : Octets l
-
-none : Bytes []
-none = record { small = λ i. omega arith }
-
-cons : {x : ℕ} {l : List ℕ} → x < 256 → Bytes l → Bytes (x ∷ l)
-cons {x} {l} first rest = record { small = go }
-  where
-    go : (i : ℕ) → getD (x ∷ l) i 0 < 256
-    go zero = first
-    go (suc i) = rest .small i
-
-append : {xs ys : List ℕ} → Bytes xs → Bytes ys → Bytes (xs ++ ys)
-append {xs} {ys} first second = record { small = go xs (first .small) }
-  where
-    go : (l : List ℕ) → Octets l → (i : ℕ) → getD (l ++ ys) i 0 < 256
-    go [] all i = second .small i
-    go (x ∷ l) all zero = all 0
-    go (x ∷ l) all (suc i) = go l (λ j. all (suc j)) i
-
-bytes-octetsOf : (n v : ℕ) → Bytes (octetsOf n v)
-unfolding octetsOf digits
-bytes-octetsOf zero v = none
-bytes-octetsOf (suc n) v = append (bytes-octetsOf n (v / 256)) (cons (omega arith) none)
 
 bytes-zeros : (n : ℕ) → Bytes (tabulate (λ i. 0) n)
 unfolding tabulate

@@ -1,9 +1,9 @@
 -- The call on bytes as a machine: a state is a table's bytes, a call side, clock and packet.
-use Prim.Native.Nat.{ℕ, zero, suc, _+_, _^_, _<_}
+use Prim.Native.Nat.{ℕ, zero, suc, _+_, _^_}
 use mathlib.Core.Path.{_≡_}
 use mathlib.Core.Bool.{true, not}
 use mathlib.Core.List.{List, [], _∷_}
-use lib.ListN.{length, getD}
+use lib.ListN.{length}
 use Rattle.choice.specs.Choice.{if_then_else_, _≤ᵇ_}
 use Rattle.packet.specs.Read.{readPacket, causeNumber}
 use Rattle.packet.specs.declared.Flow.{Flow}
@@ -17,10 +17,7 @@ use Rattle.honest.specs.Rows as rows
 use Rattle.honest.specs.Filter.{connections}
 use Rattle.honest.specs.Machine.{Reading, refused, asks, Machine}
 use Rattle.honest.specs.IPv4.{Addresses, IPv4}
-
--- octets, as the types of lent bytes have it
-abbrev pub Octets : List ℕ → Type 0
-Octets l = (i : ℕ) → getD l i 0 < 256
+use Rattle.demands.specs.Octets.{Octets}
 
 pub record BytesCall : Type 0 where
   pub side : ℕ

@@ -11,5 +11,6 @@ pub mod Demand2Machine
 pub mod SoundKept
 pub mod Instance
 pub mod Marked
+pub mod Transfer
 pub mod Check
 pub mod Witness

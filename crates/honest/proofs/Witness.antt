@@ -1,7 +1,7 @@
 -- The witness is legal, by computation, and so its arrivals all pass.
 use mathlib.Core.Path.{_≡_, refl}
 use mathlib.Core.Bool.{true}
-use mathlib.Core.List.{[], _∷_, reverse}
+use mathlib.Core.List.{[], _∷_}
 use native.Mathlib.Omega.{arith}
 use Rattle.choice.specs.Choice.{if_then_else_}
 use Rattle.serial.specs.Ring.{wrap, ringPlus, ringMinus, standing}
@@ -17,14 +17,15 @@ use Rattle.honest.specs.Rules.{sentBy, receivedBy, highest, some}
 use Rattle.honest.specs.Honest.{passes, afterCall, told, Legal, NeverBlocked}
 use Rattle.honest.specs.IPv4.{IPv4}
 use Rattle.honest.specs.Instance.{listMachine}
+use Rattle.honest.specs.Carries.{shownBy}
 use Rattle.honest.specs.Marked.{empty}
-use Rattle.honest.specs.Witness.{ends, witness, otherAnswers, placeTaken, lastStage}
+use Rattle.honest.specs.Witness.{ends, witness}
 use Rattle.honest.proofs.Check.{legal?, legal?-sound}
 use Rattle.honest.proofs.Instance.{demand3-list, fresh-sound}
 
-computed : (legal? empty ends witness ≡ true) × (reverse (otherAnswers empty ends witness) ≡ 0 ∷ 11 ∷ 14 ∷ 0 ∷ []) × (placeTaken empty ends witness ≡ 1) × (lastStage empty ends witness ≡ 5)
+computed : (legal? empty ends witness ≡ true) × (shownBy (listMachine IPv4) empty ends witness ≡ record { others = 0 ∷ 11 ∷ 14 ∷ 0 ∷ []; place = 1; stage = 5 })
 unfolding if_then_else_ wrap ringPlus ringMinus standing further sent granted written sequenceMet ackMet lifeOf withFin finsAfter openStage stageAfter sameSyn reply verdictUnanswered verdictByRanges verdictOn opened repeated answered carried passed finsOf stageOf matches senderOf firstFrom unmatched matched filter sentBy receivedBy highest some passes afterCall told Rules.answered
-computed = (refl, refl, refl, refl)
+computed = (refl, refl)
 
 pub witness-legal : Legal (listMachine IPv4) empty ends witness
 witness-legal = legal?-sound empty ends witness (computed .0)
@@ -32,13 +33,6 @@ witness-legal = legal?-sound empty ends witness (computed .0)
 pub witness-passes : NeverBlocked (listMachine IPv4) empty ends witness
 witness-passes = demand3-list IPv4 empty (fresh-sound IPv4 64) ends (omega arith) witness witness-legal
 
--- of the calls that are no arrivals, the two openings pass and the two others are blocked
-pub witness-others : reverse (otherAnswers empty ends witness) ≡ 0 ∷ 11 ∷ 14 ∷ 0 ∷ []
-witness-others = computed .1
-
-pub witness-place : placeTaken empty ends witness ≡ 1
-witness-place = computed .2
-
--- every FIN has passed
-pub witness-closes : lastStage empty ends witness ≡ 5
-witness-closes = computed .3
+-- of the calls that are no arrivals, the two openings pass and the two others are blocked; every FIN has passed
+pub witness-shows : shownBy (listMachine IPv4) empty ends witness ≡ record { others = 0 ∷ 11 ∷ 14 ∷ 0 ∷ []; place = 1; stage = 5 }
+witness-shows = computed .1

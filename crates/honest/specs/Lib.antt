@@ -8,6 +8,7 @@ pub mod Histories
 pub mod Demand2
 pub mod Typed
 pub mod Instance
+pub mod Carries
 pub mod IPv4
 pub mod Marked
 pub mod Witness

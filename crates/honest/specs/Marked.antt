@@ -41,12 +41,15 @@ after t a = filter IPv4 connections t a .table
 abbrev pub empty : Table IPv4 connections
 empty = fresh IPv4 connections 64
 
--- the example's first two packets
+-- the example's packets
 abbrev pub packet1 : Ask IPv4
 packet1 = byOpener 0 (segment SYN 100 1 0 1000)
 
 abbrev pub packet2 : Ask IPv4
 packet2 = byAnswerer 100 (segment SYN+ACK 500 1 101 2000)
+
+abbrev pub packet3 : Ask IPv4
+packet3 = byOpener 200 (segment ACK 101 0 502 1000)
 
 abbrev pub opened : Table IPv4 connections
 opened = after empty packet1
@@ -95,7 +98,7 @@ abbrev pub markedSet : List Case
 markedSet =
     leaves (example 1) empty packet1 0 (ends (numbers 101 101 1000) (numbers 0 0 1))
     ∷ leaves (example 2) opened packet2 0 (ends (numbers 101 2101 1000) (numbers 501 501 2000))
-    ∷ is (example 3) stateK (byOpener 200 (segment ACK 101 0 502 1000)) 15
+    ∷ is (example 3) stateK packet3 15
     ∷ is (C 1) stateK (byOpener 200 (segment ACK 101 2000 501 1000)) 0
     ∷ is (C 2) stateK (byOpener 200 (segment ACK 101 2001 501 1000)) 14
     ∷ is (C 3) stateK (byOpener 200 (segment ACK 4294965397 0 501 1000)) 0

@@ -12,13 +12,10 @@ use Rattle.choice.specs.Choice.{_=ᵇ_, _≤ᵇ_}
 use Rattle.choice.proofs.Tests.{&&-true, false-true}
 use Rattle.serial.proofs.Ring.{wrap-small}
 use Rattle.segment.specs.Flags.{syn, SYN, SYN+ACK}
-use Rattle.history.specs.History.{LineSegment, onWire, stageOf, Placeable}
-use Rattle.honest.specs.Rows.{Table}
-use Rattle.honest.specs.Filter.{connections}
+use Rattle.history.specs.History.{LineSegment, onWire, Placeable}
 use Rattle.honest.specs.Rules.{opening, arrival, other, Event, send, call, delivery, Pair}
-use Rattle.honest.specs.Honest.{told, said}
 use Rattle.honest.specs.IPv4.{Addresses, IPv4, address, swapped}
-use Rattle.honest.specs.Instance.{ListCall, listMachine}
+use Rattle.honest.specs.Instance.{ListCall}
 use Rattle.honest.specs.Marked.{ACK, outward}
 
 -- The pair: the opener's SYN is number 2^32 − 3, the answerer's 2^32 − 2
@@ -244,20 +241,3 @@ story =
 
 abbrev pub witness : List Seen
 witness = reverse story
-
--- What it shows besides: the answers to the calls that are no arrivals, the place that the opening took, and the last stage
-
-module _ (t₀ : Table IPv4 connections) (P : Pair IPv4) where
-  abbrev pub otherAnswers : List Seen → List ℕ
-  otherAnswers [] = []
-  otherAnswers (call q other ∷ L) = said (listMachine IPv4) t₀ P L q .answer ∷ otherAnswers L
-  otherAnswers (call q (opening k p) ∷ L) = otherAnswers L
-  otherAnswers (call q (arrival k p) ∷ L) = otherAnswers L
-  otherAnswers (send p ∷ L) = otherAnswers L
-  otherAnswers (delivery k p ∷ L) = otherAnswers L
-
-  abbrev pub placeTaken : List Seen → ℕ
-  placeTaken L = told (listMachine IPv4) t₀ P L .place
-
-  abbrev pub lastStage : List Seen → ℕ
-  lastStage L = stageOf (told (listMachine IPv4) t₀ P L .passed)

@@ -1,0 +1,59 @@
+-- The witness on bytes is legal, since its packets are read as what they were made from, and so its arrivals all pass.
+use Prim.Native.Nat.{ℕ, _≤_}
+use mathlib.Core.Path.{_≡_, refl, ap, _∙_}
+use mathlib.Core.List.{List, [], _∷_}
+use native.Mathlib.Omega.{arith}
+use Rattle.choice.specs.Choice.{if_then_else_}
+use Rattle.serial.specs.Ring.{wrap}
+use Rattle.octets.specs.Digits.{number, digits}
+use Rattle.octets.specs.BigEndian.{bigEndian, octetsOf}
+use Rattle.packet.specs.Sum.{onesPlus, onesSum}
+use Rattle.packet.specs.Read.{readPacket}
+use Rattle.honest.specs.Filter.{connections}
+use Rattle.honest.specs.Rules.{Event, Pair}
+use Rattle.honest.specs.Honest.{Legal, NeverBlocked}
+use Rattle.honest.specs.Demand2.{fresh}
+use Rattle.honest.specs.IPv4.{IPv4}
+use Rattle.honest.specs.Instance.{ListCall, listMachine}
+use Rattle.honest.specs.Carries.{Carries, readings, shownBy}
+use Rattle.honest.specs.Witness.{ends, witness}
+use Rattle.honest.proofs.Transfer.{made-carries, legal-carried, shown-carried}
+use Rattle.honest.proofs.Witness.{witness-legal, witness-shows}
+use Rattle.demands.specs.Bytes.{BytesCall, SoundBytes, readingOf, bytesMachine}
+use Rattle.demands.specs.Demands.{freshBytes}
+use Rattle.demands.specs.Packets.{fieldOctets, octetsIn, checksum, payloadOf, ipHeader, tcpHeader, pseudoHeader, packetOf, bytesCall}
+use Rattle.demands.specs.Witness.{bytesWitness}
+use Rattle.demands.proofs.Sound.{fresh-bytes-sound, fresh-bytes-view}
+use Rattle.demands.proofs.Keeps.{bytes-keep}
+use Rattle.demands.proofs.Demands.{demand3-on-bytes}
+
+-- From an all-zero table, by the fresh one that it is
+
+module _ (n : ℕ) (some : 1 ≤ n) (most : n ≤ 512) (P : Pair IPv4) {L : List (Event BytesCall)} {N : List (Event (ListCall IPv4))} (carries : Carries bytesMachine L N) where
+  sound : SoundBytes (freshBytes n)
+  sound = fresh-bytes-sound n some most
+
+  legal-on-bytes : Legal (listMachine IPv4) (fresh IPv4 connections n) P N → Legal bytesMachine (freshBytes n) P L
+  legal-on-bytes legal = legal-carried bytesMachine SoundBytes bytes-keep (freshBytes n) sound P L N carries (rw (fresh-bytes-view n) legal)
+
+  shown-on-bytes : shownBy bytesMachine (freshBytes n) P L ≡ shownBy (listMachine IPv4) (fresh IPv4 connections n) P N
+  shown-on-bytes = shown-carried bytesMachine SoundBytes bytes-keep (freshBytes n) sound P L N carries ∙ ap (λ t. shownBy (listMachine IPv4) t P N) (fresh-bytes-view n)
+
+-- The witness
+
+all-read : readings bytesMachine bytesWitness ≡ readings (listMachine IPv4) witness
+unfolding if_then_else_ wrap number digits bigEndian octetsOf onesPlus onesSum readPacket readingOf fieldOctets octetsIn checksum payloadOf ipHeader tcpHeader pseudoHeader packetOf
+all-read = refl
+
+witness-carried : Carries bytesMachine bytesWitness witness
+witness-carried = made-carries bytesMachine (λ b. bytesCall (b .0)) witness all-read
+
+pub bytes-witness-legal : Legal bytesMachine (freshBytes 64) ends bytesWitness
+bytes-witness-legal = legal-on-bytes 64 (omega arith) (omega arith) ends witness-carried witness-legal
+
+pub bytes-witness-passes : NeverBlocked bytesMachine (freshBytes 64) ends bytesWitness
+bytes-witness-passes = demand3-on-bytes 64 (omega arith) (omega arith) ends (omega arith) bytesWitness bytes-witness-legal
+
+-- of the calls that are no arrivals, the two openings pass and the two others are blocked; every FIN has passed
+pub bytes-witness-shows : shownBy bytesMachine (freshBytes 64) ends bytesWitness ≡ record { others = 0 ∷ 11 ∷ 14 ∷ 0 ∷ []; place = 1; stage = 5 }
+bytes-witness-shows = shown-on-bytes 64 (omega arith) (omega arith) ends witness-carried ∙ witness-shows

@@ -1,0 +1,84 @@
+-- The packet of a call that asks something: IPv4 and TCP headers without options (RFC 791, 3.1; RFC 9293, 3.1), zeros for payload.
+use Prim.Native.Nat.{ℕ, _+_, _*_, _-_}
+use mathlib.Core.List.{List, [], _∷_, _++_}
+use lib.ListN.{replicate}
+use Rattle.octets.specs.BigEndian.{octetsOf}
+use Rattle.segment.specs.Flags.{fin, syn}
+use Rattle.packet.specs.Sum.{onesSum}
+use Rattle.honest.specs.Rows.{Ask}
+use Rattle.honest.specs.IPv4.{IPv4}
+use Rattle.demands.specs.Octets.{Bytes, none, append, bytes-octetsOf, bytes-replicate}
+use Rattle.demands.specs.Bytes.{BytesCall}
+
+-- a header's field, of 8, 16 or 32 bits
+pub data Field : Type 0 where
+  u8 u16 u32 : ℕ → Field
+
+-- its octets
+unfoldable pub fieldOctets : Field → List ℕ
+fieldOctets (u8 v) = octetsOf 1 v
+fieldOctets (u16 v) = octetsOf 2 v
+fieldOctets (u32 v) = octetsOf 4 v
+
+-- the octets of fields one after the other
+unfoldable pub octetsIn : List Field → List ℕ
+octetsIn [] = []
+octetsIn (f ∷ l) = fieldOctets f ++ octetsIn l
+
+-- the number with which the ones' complement sum is ffff
+unfoldable pub checksum : List Field → ℕ
+checksum l = 0xffff - onesSum (octetsIn l)
+
+module _ (a : Ask IPv4) where
+  -- SYN and FIN count one each among the segment's octets
+  unfoldable pub payloadOf : ℕ
+  payloadOf = a .segment .octets .0 - syn (a .segment .flags) - fin (a .segment .flags)
+
+  -- version 4 and 5 words of header, total length; no fragment; 64 hops to live, protocol 6, the checksum given; addresses
+  unfoldable pub ipHeader : ℕ → List Field
+  ipHeader sum =
+      u8 0x45 ∷ u8 0 ∷ u16 (20 + 20 + payloadOf)
+      ∷ u16 0 ∷ u16 0
+      ∷ u8 64 ∷ u8 6 ∷ u16 sum
+      ∷ u32 (a .key .source)
+      ∷ u32 (a .key .destination)
+      ∷ []
+
+  -- ports; numbers; 5 words of header, flags, window; the checksum given, no urgent pointer
+  unfoldable pub tcpHeader : ℕ → List Field
+  tcpHeader sum =
+      u16 (a .key .sourcePort) ∷ u16 (a .key .destinationPort)
+      ∷ u32 (a .segment .seq .0)
+      ∷ u32 (a .segment .ack .0)
+      ∷ u8 (5 * 16) ∷ u8 (a .segment .flags) ∷ u16 (a .segment .window .0)
+      ∷ u16 sum ∷ u16 0
+      ∷ []
+
+  -- what TCP's checksum covers besides its header; a payload of zeros adds nothing
+  unfoldable pub pseudoHeader : List Field
+  pseudoHeader = u32 (a .key .source) ∷ u32 (a .key .destination) ∷ u8 0 ∷ u8 6 ∷ u16 (20 + payloadOf) ∷ []
+
+  -- each checksum is taken over its header with a zero in its place
+  unfoldable pub packetOf : List ℕ
+  packetOf = octetsIn (ipHeader (checksum (ipHeader 0)) ++ tcpHeader (checksum (pseudoHeader ++ tcpHeader 0))) ++ replicate payloadOf 0
+
+-- It is made of octets
+
+bytes-field : (f : Field) → Bytes (fieldOctets f)
+unfolding fieldOctets
+bytes-field (u8 v) = bytes-octetsOf 1 v
+bytes-field (u16 v) = bytes-octetsOf 2 v
+bytes-field (u32 v) = bytes-octetsOf 4 v
+
+bytes-fields : (l : List Field) → Bytes (octetsIn l)
+unfolding octetsIn
+bytes-fields [] = none
+bytes-fields (f ∷ l) = append (bytes-field f) (bytes-fields l)
+
+pub bytes-packet : (a : Ask IPv4) → Bytes (packetOf a)
+unfolding packetOf
+bytes-packet a = append (bytes-fields _) (bytes-replicate (payloadOf a))
+
+-- the call that lends it
+abbrev pub bytesCall : Ask IPv4 → BytesCall
+bytesCall a = record { side = a .side; clock = a .clock; packet = packetOf a; octets = bytes-packet a .small }

@@ -1,0 +1,230 @@
+-- A list that is legal over the filter is legal over every machine that keeps to it and is asked the same.
+use Prim.Native.Nat.{ℕ, _+_, _<_, max}
+use mathlib.Core.Path.{_≡_, refl, sym, ap, _∙_}
+use mathlib.Core.Logic.{inl, inr, ⊎-elim}
+use mathlib.Core.Bool.{true}
+use mathlib.Core.List.{List, [], _∷_, map, reverse}
+use lib.ListN.{length}
+use Rattle.choice.specs.Choice.{if_then_else_, _=ᵇ_}
+use Rattle.connection.specs.Stages.{lifeOf}
+use Rattle.history.specs.History.{LineSegment, stageOf}
+use Rattle.honest.specs.Keys.{Keys}
+use Rattle.honest.specs.Rows.{Table}
+use Rattle.honest.specs.Filter.{connections}
+use Rattle.honest.specs.Machine.{asks, Machine, KeepsTo}
+use Rattle.honest.specs.Rules.{Label, opening, arrival, other, Event, send, call, delivery, Pair, sentBy, Sent, receivedBy, answered, Honest, first, later}
+use Rattle.honest.specs.Honest.{Told, clockIn, passes, nextClock, afterSegment, afterCall, told, said, Live, Is, Arrived, Passed, Arrives, FairCall, Legal}
+use Rattle.honest.specs.Instance.{ListCall, listMachine}
+use Rattle.honest.specs.Carries.{Carries, none, sent, called, delivered, LegalCarried, withCall, readings, otherAnswers, shownBy, ShownCarried}
+
+-- What ends have sent and received
+
+module _ {K : Keys} (M : Machine K) where
+  abbrev Carrying : Type 0
+  Carrying = List (Event (M .Call))
+
+  abbrev Carried : Type 0
+  Carried = List (Event (ListCall K))
+
+  sentBy-same : (i : ℕ) {L : Carrying} {N : Carried} → Carries M L N → sentBy i L ≡ sentBy i N
+  unfolding sentBy
+  sentBy-same i none = refl
+  sentBy-same i (sent {p = p} c) = ap (λ (l : List LineSegment). if p .from =ᵇ i then p ∷ l else l) (sentBy-same i c)
+  sentBy-same i (called is c) = sentBy-same i c
+  sentBy-same i (delivered c) = sentBy-same i c
+
+  receivedBy-same : (i : ℕ) {L : Carrying} {N : Carried} → Carries M L N → receivedBy i L ≡ receivedBy i N
+  unfolding receivedBy
+  receivedBy-same i none = refl
+  receivedBy-same i (sent c) = receivedBy-same i c
+  receivedBy-same i (called is c) = receivedBy-same i c
+  receivedBy-same i (delivered {p = p} c) = ap (λ (l : List LineSegment). if p .from =ᵇ i then l else p ∷ l) (receivedBy-same i c)
+
+  sent-carried : (k : ℕ) (p : LineSegment) {L : Carrying} {N : Carried} → Carries M L N → Sent k p N → Sent k p L
+  sent-carried k p none was = was
+  sent-carried k p (sent {p = g} c) was =
+      ⊎-elim (λ this. inl (this .0, this .1 ∙ sym (ap length (sentBy-same (g .from) c)))) (λ before. inr (sent-carried k p c before)) was
+  sent-carried k p (called is c) was = sent-carried k p c was
+  sent-carried k p (delivered c) was = sent-carried k p c was
+
+  answered-same : (i : ℕ) {L : Carrying} {N : Carried} → Carries M L N → answered i L ≡ answered i N
+  unfolding answered
+  answered-same i c = rw (receivedBy-same 0 c, receivedBy-same 1 c)
+
+  honest-carried : (P : Pair K) (p : LineSegment) {L : Carrying} {N : Carried} → Carries M L N → Honest P p N → Honest P p L
+  honest-carried P p c (first rule not-yet syn-received) =
+      first rule (answered-same (p .from) c ∙ not-yet) (λ answerer. rw (receivedBy-same 1 c) (syn-received answerer))
+  honest-carried P p c (later rule now) =
+      later record {
+        has-ack = rule .has-ack;
+        no-syn = rule .no-syn;
+        no-reset = rule .no-reset;
+        starts = rw (receivedBy-same (p .from) c) (rule .starts);
+        ends = rw (receivedBy-same (p .from) c) (rule .ends);
+        acks-syn = rule .acks-syn;
+        acks-received = rw (receivedBy-same (p .from) c) (rule .acks-received);
+        acks-rise = rw (sentBy-same (p .from) c) (rule .acks-rise);
+      }
+      (answered-same (p .from) c ∙ now)
+
+  -- a list with each call made from the filter's, where all are read as what they were made from
+  pub made-carries : (f : ListCall K → M .Call) (N : List (Event (ListCall K))) → readings M (map (withCall f) N) ≡ readings (listMachine K) N → Carries M (map (withCall f) N) N
+  made-carries f [] all = none
+  made-carries f (send p ∷ N) all = sent (made-carries f N all)
+  made-carries f (call b l ∷ N) all = let this : M .reads (f b) ≡ asks (b .0) = cc in called this (made-carries f N cc)
+  made-carries f (delivery k p ∷ N) all = delivered (made-carries f N all)
+
+-- What the calls tell
+
+module _ {K : Keys} (M : Machine K) (Sound : M .State → Type 0) (keeps : KeepsTo K M Sound) (s₀ : M .State) (sound : Sound s₀) (P : Pair K) where
+  abbrev F : Machine K
+  F = listMachine K
+
+  abbrev t₀ : Table K connections
+  t₀ = M .view s₀
+
+  -- the same, with the table that the state is
+  abbrev viewed : Told M s₀ P → Told F t₀ P
+  viewed t = record { state = M .view (t .state); opened = t .opened; place = t .place; passed = t .passed; passClock = t .passClock; until = t .until }
+
+  module _ (t : Told M s₀ P) (kept : Sound (t .state)) (q : M .Call) (b : ListCall K) (is : M .reads q ≡ asks (b .0)) where
+    same-pass : passes F t₀ P (viewed t) b ≡ passes M s₀ P t q
+    unfolding passes
+    same-pass = ap (λ (n : ℕ). n =ᵇ 0) (sym (keeps .answered (t .state) q (b .0) kept is))
+
+    same-clock : nextClock F t₀ P (viewed t) b ≡ nextClock M s₀ P t q
+    same-clock = λ i. if same-pass i then max (clockIn M s₀ P (sym is i)) (t .passClock) else t .passClock
+
+    same-segment : (x y : ℕ) (p : LineSegment) → y ≡ x → afterSegment F t₀ P (viewed t) b x p ≡ viewed (afterSegment M s₀ P t q y p)
+    same-segment x y p e = λ i. record {
+      state = sym (keeps .left (t .state) q (b .0) kept is) i;
+      opened = true;
+      place = sym e i;
+      passed = if same-pass i then p ∷ t .passed else t .passed;
+      passClock = same-clock i;
+      until = if same-pass i then same-clock i + lifeOf (stageOf (p ∷ t .passed)) else t .until;
+    }
+
+    same-after : (l : Label) → afterCall F t₀ P (viewed t) b l ≡ viewed (afterCall M s₀ P t q l)
+    unfolding afterCall
+    same-after (opening k p) = same-segment _ _ p (keeps .placed (t .state) q (b .0) kept is)
+    same-after (arrival k p) = same-segment _ _ p refl
+    same-after other = λ i. record {
+      state = sym (keeps .left (t .state) q (b .0) kept is) i;
+      opened = t .opened;
+      place = t .place;
+      passed = t .passed;
+      passClock = same-clock i;
+      until = t .until;
+    }
+
+  after-sound : (t : Told M s₀ P) → Sound (t .state) → (q : M .Call) (l : Label) → Sound (afterCall M s₀ P t q l .state)
+  unfolding afterCall
+  after-sound t kept q (opening k p) = keeps .sound-kept (t .state) q kept
+  after-sound t kept q (arrival k p) = keeps .sound-kept (t .state) q kept
+  after-sound t kept q other = keeps .sound-kept (t .state) q kept
+
+  told-sound : {L : Carrying M} {N : Carried M} → Carries M L N → Sound (told M s₀ P L .state)
+  unfolding told
+  told-sound none = sound
+  told-sound (sent c) = told-sound c
+  told-sound (called {q = q} {l = l} is c) = after-sound _ (told-sound c) q l
+  told-sound (delivered c) = told-sound c
+
+  told-same : {L : Carrying M} {N : Carried M} → Carries M L N → told F t₀ P N ≡ viewed (told M s₀ P L)
+  unfolding told
+  told-same none = refl
+  told-same (sent c) = told-same c
+  told-same (called {q = q} {b = b} {l = l} is c) =
+      ap (λ (t : Told F t₀ P). afterCall F t₀ P t b l) (told-same c) ∙ same-after _ (told-sound c) q b is l
+  told-same (delivered c) = told-same c
+
+  -- What is asked of each event
+
+  -- a label says the same of either machine
+  is-same : (l : Label) (k : ℕ) (p : LineSegment) → Is M s₀ P l k p ≡ Is F t₀ P l k p
+  is-same (opening j g) k p = refl
+  is-same (arrival j g) k p = refl
+  is-same other k p = refl
+
+  arrived-carries : (k : ℕ) (p : LineSegment) {L : Carrying M} {N : Carried M} → Carries M L N → Arrived M s₀ P k p L → Arrived F t₀ P k p N
+  arrived-carries k p none was = was
+  arrived-carries k p (sent c) was = arrived-carries k p c was
+  arrived-carries k p (called {l = l} is c) was = ⊎-elim (λ this. inl (rw (is-same l k p) at this)) (λ before. inr (arrived-carries k p c before)) was
+  arrived-carries k p (delivered c) was = arrived-carries k p c was
+
+  module _ {L : Carrying M} {N : Carried M} (c : Carries M L N) where
+    view-same : M .view (told M s₀ P L .state) ≡ told F t₀ P N .state
+    view-same = ap (λ (t : Told F t₀ P). t .state) (sym (told-same c))
+
+    opened-same : told M s₀ P L .opened ≡ told F t₀ P N .opened
+    opened-same = ap (λ (t : Told F t₀ P). t .opened) (sym (told-same c))
+
+    place-same : told M s₀ P L .place ≡ told F t₀ P N .place
+    place-same = ap (λ (t : Told F t₀ P). t .place) (sym (told-same c))
+
+    module _ (q : M .Call) (b : ListCall K) (is : M .reads q ≡ asks (b .0)) where
+      said-answer-same : said M s₀ P L q .answer ≡ said F t₀ P N b .answer
+      said-answer-same = keeps .answered _ q (b .0) (told-sound c) is ∙ ap (λ (t : Table K connections). F .run t b .answer) view-same
+
+      said-place-same : said M s₀ P L q .place ≡ said F t₀ P N b .place
+      said-place-same = keeps .placed _ q (b .0) (told-sound c) is ∙ ap (λ (t : Table K connections). F .run t b .place) view-same
+
+      passes-same : passes M s₀ P (told M s₀ P L) q ≡ passes F t₀ P (told F t₀ P N) b
+      unfolding passes
+      passes-same = ap (λ (n : ℕ). n =ᵇ 0) said-answer-same
+
+      live-same : Live M s₀ P q L ≡ Live F t₀ P b N
+      live-same = λ i. max (clockIn M s₀ P (is i)) (sym (told-same c) i .passClock) < sym (told-same c) i .until
+
+      arrives-carried : (k : ℕ) (p : LineSegment) → Arrives F t₀ P k p b N → Arrives M s₀ P k p q L
+      arrives-carried k p a = record { sent = sent-carried M k p c (a .sent); clock = a .clock; brings = is ∙ a .brings }
+
+      fair-call-carried : (l : Label) → FairCall F t₀ P l b N → FairCall M s₀ P l q L
+      fair-call-carried (opening k p) o = record {
+        first-one = opened-same ∙ o .first-one;
+        arrives = arrives-carried k p (o .arrives);
+        opener = o .opener;
+        finds-none = λ a asked. rw view-same (o .finds-none a (sym is ∙ asked));
+        answered-0 = passes-same ∙ o .answered-0;
+      }
+      fair-call-carried (arrival k p) r = record {
+        after-opening = opened-same ∙ r .after-opening;
+        arrives = arrives-carried k p (r .arrives);
+        in-order = λ j g was. r .in-order j g (arrived-carries j g c was);
+        live = rw live-same (r .live);
+      }
+      fair-call-carried other elsewhere =
+          λ opened live pass place. elsewhere (sym opened-same ∙ opened) (rw live-same at live) (sym passes-same ∙ pass) (sym said-place-same ∙ place ∙ place-same)
+
+  passed-carried : (k : ℕ) (p : LineSegment) {L : Carrying M} {N : Carried M} → Carries M L N → Passed F t₀ P k p N → Passed M s₀ P k p L
+  passed-carried k p none was = was
+  passed-carried k p (sent c) was = passed-carried k p c was
+  passed-carried k p (called {q = q} {b = b} {l = l} is c) was =
+      ⊎-elim (λ this. inl (rw (is-same l k p) (this .0), passes-same c q b is ∙ this .1)) (λ before. inr (passed-carried k p c before)) was
+  passed-carried k p (delivered c) was = passed-carried k p c was
+
+  -- The theorems
+
+  legal-along : {L : Carrying M} {N : Carried M} → Carries M L N → Legal F t₀ P N → Legal M s₀ P L
+  legal-along none legal = tt
+  legal-along (sent {p = p} c) legal = ((legal .0 .0, legal .0 .1, honest-carried M P p c (legal .0 .2)), legal-along c (legal .1))
+  legal-along (called {q = q} {b = b} {l = l} is c) legal = (fair-call-carried c q b is l (legal .0), legal-along c (legal .1))
+  legal-along (delivered {k = k} {p = p} c) legal = (passed-carried k p c (legal .0), legal-along c (legal .1))
+
+  others-same : {L : Carrying M} {N : Carried M} → Carries M L N → otherAnswers M s₀ P L ≡ otherAnswers F t₀ P N
+  others-same none = refl
+  others-same (sent c) = others-same c
+  others-same (called {l = opening k p} is c) = others-same c
+  others-same (called {l = arrival k p} is c) = others-same c
+  others-same (called {q = q} {b = b} {l = other} is c) = λ i. said-answer-same c q b is i ∷ others-same c i
+  others-same (delivered c) = others-same c
+
+  shown-along : {L : Carrying M} {N : Carried M} → Carries M L N → shownBy M s₀ P L ≡ shownBy F t₀ P N
+  shown-along c = λ i. record { others = reverse (others-same c i); place = place-same c i; stage = stageOf (sym (told-same c) i .passed) }
+
+pub legal-carried : {K : Keys} (M : Machine K) (Sound : M .State → Type 0) → KeepsTo K M Sound → LegalCarried M Sound
+legal-carried M Sound keeps s₀ sound P L N carries legal = legal-along M Sound keeps s₀ sound P carries legal
+
+pub shown-carried : {K : Keys} (M : Machine K) (Sound : M .State → Type 0) → KeepsTo K M Sound → ShownCarried M Sound
+shown-carried M Sound keeps s₀ sound P L N carries = shown-along M Sound keeps s₀ sound P carries

@@ -1,0 +1,70 @@
+-- A list of a machine's events that carries one of the filter's: it is legal if that is. Lists are newest first.
+use Prim.Native.Nat.{ℕ}
+use mathlib.Core.Path.{_≡_}
+use mathlib.Core.List.{List, [], _∷_, reverse}
+use Rattle.history.specs.History.{LineSegment, stageOf}
+use Rattle.honest.specs.Keys.{Keys}
+use Rattle.honest.specs.Rows.{Ask}
+use Rattle.honest.specs.Machine.{Reading, asks, Machine}
+use Rattle.honest.specs.Rules.{Label, opening, arrival, other, Event, send, call, delivery, Pair}
+use Rattle.honest.specs.Honest.{told, said, Legal}
+use Rattle.honest.specs.Instance.{ListCall, listMachine}
+
+-- the same sendings, deliveries and labels, and each call asks what the filter's asks
+pub data Carries {K : Keys} (M : Machine K) : List (Event (M .Call)) → List (Event (ListCall K)) → Type 0 where
+  none : Carries M [] []
+  sent : {p : LineSegment} {L : List (Event (M .Call))} {N : List (Event (ListCall K))} → Carries M L N → Carries M (send p ∷ L) (send p ∷ N)
+  called : {q : M .Call} {b : ListCall K} {l : Label} {L : List (Event (M .Call))} {N : List (Event (ListCall K))} → M .reads q ≡ asks (b .0) → Carries M L N → Carries M (call q l ∷ L) (call b l ∷ N)
+  delivered : {k : ℕ} {p : LineSegment} {L : List (Event (M .Call))} {N : List (Event (ListCall K))} → Carries M L N → Carries M (delivery k p ∷ L) (delivery k p ∷ N)
+
+-- A list whose calls are made from the filter's
+
+-- an event with its call, if it is one, turned to another
+abbrev pub withCall : {A B : Type 0} → (A → B) → Event A → Event B
+withCall f (send p) = send p
+withCall f (call q l) = call (f q) l
+withCall f (delivery k p) = delivery k p
+
+-- what the calls of a list are read as
+abbrev pub readings : {K : Keys} (M : Machine K) → List (Event (M .Call)) → List (Reading (Ask K))
+readings M [] = []
+readings M (send p ∷ L) = readings M L
+readings M (call q l ∷ L) = M .reads q ∷ readings M L
+readings M (delivery k p ∷ L) = readings M L
+
+-- What a list shows besides
+
+-- the answers to the calls that are no arrivals, oldest first; the place that the opening took; the stage of what has passed there
+pub record Shown : Type 0 where
+  pub others : List ℕ
+  pub place : ℕ
+  pub stage : ℕ
+
+module _ {K : Keys} (M : Machine K) (s₀ : M .State) (P : Pair K) where
+  -- newest first
+  abbrev pub otherAnswers : List (Event (M .Call)) → List ℕ
+  otherAnswers [] = []
+  otherAnswers (call q other ∷ L) = said M s₀ P L q .answer ∷ otherAnswers L
+  otherAnswers (call q (opening k p) ∷ L) = otherAnswers L
+  otherAnswers (call q (arrival k p) ∷ L) = otherAnswers L
+  otherAnswers (send p ∷ L) = otherAnswers L
+  otherAnswers (delivery k p ∷ L) = otherAnswers L
+
+  -- by what the calls tell
+  abbrev pub shownBy : List (Event (M .Call)) → Shown
+  shownBy L = record { others = reverse (otherAnswers L); place = told M s₀ P L .place; stage = stageOf (told M s₀ P L .passed) }
+
+-- The claims: of a machine, from every sound state, for every list that carries another
+
+module _ {K : Keys} (M : Machine K) (Sound : M .State → Type 0) where
+  -- if that is legal over the filter from the table that the state is, the list is legal over the machine
+  abbrev pub LegalCarried : Type 0
+  LegalCarried =
+      (s₀ : M .State) → Sound s₀ → (P : Pair K) → (L : List (Event (M .Call))) (N : List (Event (ListCall K))) → Carries M L N →
+      Legal (listMachine K) (M .view s₀) P N → Legal M s₀ P L
+
+  -- it shows the same
+  abbrev pub ShownCarried : Type 0
+  ShownCarried =
+      (s₀ : M .State) → Sound s₀ → (P : Pair K) → (L : List (Event (M .Call))) (N : List (Event (ListCall K))) → Carries M L N →
+      shownBy M s₀ P L ≡ shownBy (listMachine K) (M .view s₀) P N
