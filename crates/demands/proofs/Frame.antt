@@ -1,7 +1,7 @@
 -- What a pass writes into a table, and what it leaves alone.
 use Prim.Native.Nat.{ℕ, zero, suc, _+_, _-_, _^_, _≤_, _<_}
 use mathlib.Core.Path.{_≡_, refl, sym, ap, _∙_}
-use mathlib.Core.Logic.{⊎-elim}
+use mathlib.Core.Logic.{_⊎_, ⊎-elim}
 use mathlib.Core.List.{List, [], _∷_}
 use native.Mathlib.Omega.{arith}
 use native.Mathlib.Nat.{add-zero, zero-add, add-assoc}
@@ -132,6 +132,10 @@ module _ (t : List ℕ) (p now : ℕ) (e : Entry) (inside : p < placesIn t) wher
 
   past-clock : (k : ℕ) → 8 ≤ k → getD clocked k 0 ≡ getD t k 0
   past-clock k past = getD-overwrite-after t 0 (octetsOf 8 now) clock-fits k (rw (length-octetsOf 8 now) (omega arith))
+
+  -- all bytes but the clock's and the entry's are as they were
+  pub byte-elsewhere : (k : ℕ) → 8 ≤ k → (k < placeAt p) ⊎ (placeAt p + entrySize ≤ k) → getD (tableAfter t (Passed p now e)) k 0 ≡ getD t k 0
+  byte-elsewhere k past off = ⊎-elim (before-entry k) (past-entry k) off ∙ past-clock k past
 
   pub clock-after : now < 2 ^ 64 → headerClock (tableAfter t (Passed p now e)) ≡ now
   unfolding headerClock

@@ -7,6 +7,7 @@ pub mod Frame
 pub mod View
 pub mod Sound
 pub mod Keeps
+pub mod Demand1
 pub mod Demands
 pub mod Example
 pub mod Witness

@@ -10,7 +10,7 @@ use Rattle.honest.specs.Demand2.{fresh, tableAfter, AllPlaceable, stateA
 use Rattle.honest.proofs.Demand2Lists.{demand2}
 
 module _ {K : Keys} (M : Machine K) (Sound : M .State → Type 0) (keeps : KeepsTo K M Sound) (s₀ : M .State) (sound : Sound s₀) (n : ℕ) (begins : M .view s₀ ≡ fresh K connections n) where
-  stays-sound : (l : List (M .Call)) → Sound (stateAfter M s₀ l)
+  pub stays-sound : (l : List (M .Call)) → Sound (stateAfter M s₀ l)
   unfolding stateAfter
   stays-sound [] = sound
   stays-sound (q ∷ l) = keeps .sound-kept (stateAfter M s₀ l) q (stays-sound l)
