@@ -21,7 +21,8 @@ extern "C" {
  * byte of the table has changed. The packet is only read.
  *
  * table and packet must point to as many bytes as their lengths say and not overlap; neither may be NULL, not even with length 0.
- * Any side, clock, lengths and bytes are answered. Calls on one table must not run at the same time.
+ * Any side, clock, lengths and bytes are answered; a side over 255 is cut to 8 bits by C before the call. Calls on one table must not run
+ * at the same time.
  */
 uint32_t qb_filter(uint8_t side, uint64_t clock, uint8_t *table, size_t table_len, const uint8_t *packet, size_t packet_len);
 

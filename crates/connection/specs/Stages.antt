@@ -8,7 +8,7 @@ use Rattle.segment.specs.Flags.{fin, syn, ack}
 abbrev pub longestLife : ℕ
 longestLife = 432000000
 
--- life of a stage, in ms: 1 and 2: 60,000; 3: 432,000,000; 4: 3,600,000; 5: 240,000
+-- life of a stage, in ms: 1 and 2: 60,000; 3: 432,000,000; 4: 3,600,000; 5: 240,000. No sound entry has another stage
 unfoldable pub lifeOf : ℕ → ℕ
 lifeOf stage =
     if (1 ≤ᵇ stage) && (stage ≤ᵇ 2) then 60000

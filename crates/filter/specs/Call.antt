@@ -1,4 +1,5 @@
--- One call of the filter on bytes (document 01, "What the gate says").
+-- One call of the filter on bytes (document 01, "What the gate says"); `outcomeOf` is the whole list. Rows 11 to 15 and 0 over a list of
+-- entries, without bytes, are in `honest`, proved to be these.
 use Prim.Native.Nat.{ℕ, _-_, _/_, _%_, _^_, max}
 use mathlib.Core.Bool.{Bool, _&&_, not}
 use mathlib.Core.List.{List}
@@ -81,7 +82,7 @@ abbrev pub onVacant : Found → ℕ → ℕ → Flow → Segment → Outcome
 onVacant Nothing now side f g = Blocked 12
 onVacant (At p) now side f g = Passed p now (openingEntry now side f g)
 
--- 11, unless it is SYN without ACK from side 0
+-- 11, unless it is SYN without ACK from side 0: flags hold FIN, SYN, RST and ACK alone, and row 10 has refused SYN with FIN or RST
 unfoldable pub unmatched : List ℕ → ℕ → ℕ → Flow → Segment → Outcome
 unmatched t now side f g =
     if (side =ᵇ 0) && (g .flags =ᵇ SYN) then onVacant (firstFrom (expiredAt t now) 0 (placesIn t)) now side f g

@@ -1,4 +1,4 @@
--- Outcomes as the code holds them.
+-- Outcomes as the code holds them; `outcomeOf` is the definition.
 use Prim.Native.Nat.{ℕ, _+_, _≤_}
 use mathlib.Core.Path.{_≡_}
 use mathlib.Core.List.{List}

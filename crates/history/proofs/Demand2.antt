@@ -79,11 +79,11 @@ numbers-rise i p h = omega arith
 module _ (c : Connection) (h : List LineSegment) (holds : Holds c h) (reached : Reached h) (o : Presented) (legal : Legal o) where
   wire : onWire (onLine h o) ≡ o .segment
   wire =
-      onWire-placedBy (numbersOf (o .sender) h .end) (numbersOf (1 - o .sender) h .end) (o .sender) (o .segment) (legal .readable)
+      onWire-placedBy (numbersOf (o .sender) h .end) (numbersOf (1 - o .sender) h .end) (o .sender) (o .segment) (legal .placeable)
       (reached-up h reached (o .sender) (legal .sender-known)) (reached-up h reached (1 - o .sender) (omega arith))
 
   formed : Formed (onLine h o)
-  formed = placed-formed (numbersOf (o .sender) h .end) (numbersOf (1 - o .sender) h .end) (o .sender) (o .segment) (legal .readable)
+  formed = placed-formed (numbersOf (o .sender) h .end) (numbersOf (1 - o .sender) h .end) (o .sender) (o .segment) (legal .placeable)
 
   judged-on-wire : Reached h → verdictOn c (o .sender) (onWire (onLine h o)) ≡ judge h (onLine h o)
   judged-on-wire (unanswered u turned) =

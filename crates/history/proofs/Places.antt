@@ -84,7 +84,7 @@ module _ (c : Connection) (h : List LineSegment) (holds : Holds c h) (both-heard
   by-ranges : verdictOn c i g ≡ (if not (boundsI-II F T start (g .octets .0)) then SequenceMissed else if (ack (g .flags) =ᵇ 1) && not (boundsIII-IV ackRange T acked) then AckMissed else Pass)
   unfolding judge
   by-ranges =
-      judged c h holds (answered both-heard turned) record { sender = i; segment = g; now = 0 } record { sender-known = side; readable = r }
+      judged c h holds (answered both-heard turned) record { sender = i; segment = g; now = 0 } record { sender-known = side; placeable = r }
       ∙ if-=-not _ _ (λ (e : stageOf h ≡ 1). omega (arith, both-heard .stage))
 
   start-here : wrap start ≡ g .seq .0
@@ -122,8 +122,8 @@ module _ (c : Connection) (h : List LineSegment) (holds : Holds c h) (both-heard
 no-place : (c : Connection) (h : List LineSegment) → Holds c h → Reached h → (stageOf h ≡ 1 → ⊥) → (o : Presented) → Legal o → NoPlace c h o
 no-place c h holds (unanswered u turned) later o legal = absurd (later (u .stage))
 no-place c h holds (answered a turned) later o legal = record {
-  sequence = no-place-14 c h holds a turned (o .sender) (legal .sender-known) (o .segment) (legal .readable);
-  acknowledgement = no-place-15 c h holds a turned (o .sender) (legal .sender-known) (o .segment) (legal .readable);
+  sequence = no-place-14 c h holds a turned (o .sender) (legal .sender-known) (o .segment) (legal .placeable);
+  acknowledgement = no-place-15 c h holds a turned (o .sender) (legal .sender-known) (o .segment) (legal .placeable);
 }
 
 pub uniqueness : Uniqueness

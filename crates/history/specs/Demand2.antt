@@ -24,7 +24,7 @@ pub record Presented : Type 0 where
 
 pub record Legal (o : Presented) : Type 0 where
   pub sender-known : o .sender < 2
-  pub readable : Placeable (o .segment)
+  pub placeable : Placeable (o .segment)
 
 -- each of a list is legal
 unfoldable pub AllLegal : List Presented → Type 0

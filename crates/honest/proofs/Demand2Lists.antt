@@ -53,11 +53,11 @@ module _ {K : Keys} where
     reached = r .1 (omega (arith, r .0 .deadline))
 
     verdict-same : verdictOn (e .connection) i g ≡ judge (f .connection .segments) (placed (f .connection .segments) i g)
-    verdict-same = judged (e .connection) (f .connection .segments) holds reached (record { sender = i; segment = g; now = 0 }) record { sender-known = known; readable = readable }
+    verdict-same = judged (e .connection) (f .connection .segments) holds reached (record { sender = i; segment = g; now = 0 }) record { sender-known = known; placeable = readable }
 
     passed-stands : (now : ℕ) → verdictOn (e .connection) i g ≡ Pass → (rst (g .flags) ≡ 1 → ⊥) → StandsReached (record { key = e .key; connection = passed (e .connection) i g now }) (record { key = f .key; connection = grown (f .connection .side) (placed (f .connection .segments) i g ∷ f .connection .segments) now })
     passed-stands now passes no-reset =
-        let after = pass-holds (e .connection) (f .connection .segments) holds reached (record { sender = i; segment = g; now = now }) record { sender-known = known; readable = readable } no-reset (sym verdict-same ∙ passes) in
+        let after = pass-holds (e .connection) (f .connection .segments) holds reached (record { sender = i; segment = g; now = now }) record { sender-known = known; placeable = readable } no-reset (sym verdict-same ∙ passes) in
         let renewed = passed-renewed (e .connection) i g now no-reset in (
           record { key = r .0 .key; side = renewed .side ∙ r .0 .side; deadline = renewed .deadline ∙ ap (λ (s : ℕ). now + lifeOf s) (after .0 .stage); numbers = after .0 },
           λ _. after .1,

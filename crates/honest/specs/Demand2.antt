@@ -24,7 +24,7 @@ module _ (K : Keys) (B : Bodies) (n : ℕ) where
   abbrev pub replyAfter : List (Ask K) → Ask K → Reply K B
   replyAfter l a = filter K B (tableAfter l) a
 
--- every call's segment is one that the packet reader gives
+-- every call's segment is fit for the line, as all are that the packet reader gives
 unfoldable pub AllPlaceable : {K : Keys} → List (Ask K) → Type 0
 AllPlaceable [] = Unit {0}
 AllPlaceable (a ∷ l) = Placeable (a .segment) × AllPlaceable l

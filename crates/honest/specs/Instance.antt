@@ -8,7 +8,7 @@ use Rattle.honest.specs.Machine.{asks, Machine}
 use Rattle.honest.specs.Typed.{TypedTable}
 
 module _ (K : Keys) where
-  -- a well-formed call: side 0 or 1, and a segment as the packet reader gives it
+  -- a well-formed call: side 0 or 1, and a segment fit for the line, as all are that the packet reader gives
   abbrev pub ListCall : Type 0
   ListCall = (a : Ask K) × (a .side ≤ 1) × Placeable (a .segment)
 

@@ -36,7 +36,7 @@ module _ (K : Keys) (M : Machine K) (Sound : M .State → Type 0) where
     pub answered : (s : M .State) (q : M .Call) (a : Ask K) → Sound s → M .reads q ≡ asks a → M .run s q .answer ≡ filter K connections (M .view s) a .answer
     pub placed : (s : M .State) (q : M .Call) (a : Ask K) → Sound s → M .reads q ≡ asks a → M .run s q .place ≡ filter K connections (M .view s) a .place
     pub left : (s : M .State) (q : M .Call) (a : Ask K) → Sound s → M .reads q ≡ asks a → M .view (M .run s q .next) ≡ filter K connections (M .view s) a .table
-    -- and brings a segment that a packet can carry
+    -- and brings a segment fit for the line, as all are that the packet reader gives
     pub well-formed : (q : M .Call) (a : Ask K) → M .reads q ≡ asks a → Placeable (a .segment)
     -- every answer but a pass changes no byte of the table
     pub blocked-keeps : (s : M .State) (q : M .Call) → (M .run s q .answer ≡ 0 → ⊥) → M .run s q .next ≡ s

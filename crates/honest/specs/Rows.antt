@@ -1,5 +1,5 @@
 -- The filter without bytes: rows 11 to 15 and 0 of document 01 over a clock and a list of entries, whatever an entry keeps of
--- its connection.
+-- its connection. On bytes they are `filter`'s, proved to be these.
 use Prim.Native.Nat.{ℕ, _+_, _-_, max}
 use mathlib.Core.Bool.{Bool, _&&_, _||_}
 use mathlib.Core.List.{List, [], _∷_}

@@ -1,4 +1,4 @@
--- The same list as `readPacket`'s from a row on, for the functions that decide those rows alone.
+-- The same list as `readPacket`'s from a row on, for the functions that decide those rows alone; `readPacket` is the definition.
 -- p is the packet's bytes, h its header length, t its total length.
 use Prim.Native.Nat.{ℕ, _-_}
 use mathlib.Core.Bool.{_&&_, _||_, not}

@@ -22,8 +22,8 @@ standing base x = (x + 2 ^ 31 + 2 ^ 32 - base) % 2 ^ 32
 unfoldable pub nearest : ℕ → ℕ → ℕ
 nearest E s = E + standing (wrap E) s - 2 ^ 31
 
--- the largest window and acknowledgement range that the laws allow for: unscaled 65,535 and 66,000, and RFC 7323's
--- largest shift of 14
+-- the largest window and acknowledgement range that the laws allow for: 65,535 and 66,000 under RFC 7323's largest shift, 14. No
+-- answer uses more than the unscaled ones today
 abbrev pub largestWindow : ℕ
 largestWindow = 65535 * 2 ^ 14
 

@@ -11,27 +11,27 @@ ghost use Rattle.trace.specs.Write.{writeLine, lineAfter, writeAnswer, w
 
 // What reading a line finds.
 pub enum LineRead {
-    // Over 4,111 characters.
+    // 21: over 4,111 characters.
     TooLong,
-    // The offset of the first byte that no legal line has there, or the length of a line that stops early.
+    // 22: the offset of the first byte that no legal line has there, or the length of a line that stops early.
     Malformed(usize),
-    // The packet does not fit the output.
+    // 23: the packet does not fit the output.
     NoRoom,
-    // The packet's bytes are in the output.
+    // 0: the packet's bytes are in the output.
     Frame { side: u8, clock: u64, length: usize },
 }
 
 // What writing a line gives.
 pub enum LineWrite {
-    // A side that is not 0 or 1.
+    // 1: a side that is not 0 or 1.
     UnknownSide,
-    // A clock of 2^48 ms or more.
+    // 2: a clock of 2^48 ms or more.
     ClockTooLarge,
-    // A packet that is empty or over 2,048 bytes.
+    // 24: a packet that is empty or over 2,048 bytes.
     PacketLength,
-    // The line does not fit the output.
+    // 23: the line does not fit the output.
     NoSpace,
-    // So many characters are in the output.
+    // 0: so many characters are in the output.
     Written(usize),
 }
 
