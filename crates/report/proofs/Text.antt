@@ -8,7 +8,8 @@ use native.Mathlib.Nat.{pow-suc, div-lt-iff-lt-mul, le-div-iff-mul-le}
 use native.Mathlib.Numerals.{add-one}
 use lib.ListN.{length, getD, set, take, length-append, length-map, List·getD-map, List·getD-append}
 use lib.Seq.{getD-at, length-take-le, take-suc}
-use Rattle.choice.proofs.Choice.{if-<, if-<-not}
+use Rattle.choice.specs.Choice.{_<ᵇ_}
+use Rattle.choice.proofs.Choice.{if-cases, if-<, if-<-not}
 use Rattle.choice.proofs.Tests.{lt-or-ge}
 use Rattle.octets.specs.Digits.{number, digits}
 use Rattle.octets.specs.Overwrite.{overwrite}
@@ -73,6 +74,15 @@ power≤countUpTo (suc k) v some =
     rw (if-<-not {a = v} {b = 10} 1 (suc n) large, f) (rw e at step))
     (lt-or-ge v 10)
 
+-- nor has a number below a power of ten more digits than that power says
+pub countUpTo≤ : (n k v : ℕ) → v < 10 ^ suc n → countUpTo k v ≤ suc n
+unfolding countUpTo
+countUpTo≤ zero k v below = omega (arith, countUpTo-one k v (omega arith))
+countUpTo≤ (suc n) zero v below = omega arith
+countUpTo≤ (suc n) (suc k) v below =
+    if-cases (λ c. c ≤ suc (suc n)) (v <ᵇ 10) 1 (suc (countUpTo k (v / 10))) (λ _. omega arith)
+    (λ _. omega (arith, countUpTo≤ n k (v / 10) (div-lt-iff-lt-mul {k = 10} (omega arith) .1 (rw pow-suc at below))))
+
 pub 1≤digitCount : (v : ℕ) → 1 ≤ digitCount v
 unfolding digitCount
 1≤digitCount v = countUpTo-bounds 19 v .0
@@ -118,6 +128,10 @@ pub 1≤length-decimalText : (v : ℕ) → 1 ≤ length (decimalText v)
 pub length-decimalText≤20 : (v : ℕ) → length (decimalText v) ≤ 20
 length-decimalText≤20 v = rw (length-decimalText v) (digitCount≤20 v)
 
+pub length-decimalText≤ : (n v : ℕ) → v < 10 ^ suc n → length (decimalText v) ≤ suc n
+unfolding digitCount
+length-decimalText≤ n v below = rw (length-decimalText v) (countUpTo≤ n 19 v below)
+
 pub shownText-number : (s : Shown) (n : ℕ) → s ≡ Number n → shownText s ≡ decimalText n
 unfolding shownText
 shownText-number s n e = rw e
@@ -125,11 +139,6 @@ shownText-number s n e = rw e
 pub shownText-dash : (s : Shown) → s ≡ Dash → shownText s ≡ 45 ∷ []
 unfolding shownText
 shownText-dash s e = rw e
-
-pub length-shownText≤20 : (s : Shown) → length (shownText s) ≤ 20
-unfolding shownText
-length-shownText≤20 (Number n) = length-decimalText≤20 n
-length-shownText≤20 Dash = omega arith
 
 -- the number that the characters stand for is the one that was written
 pub number-decimalText : (v : ℕ) → v < 10 ^ 20 → number 10 (λ i. getD (decimalText v) i 48 - 48) (length (decimalText v)) ≡ v
@@ -208,18 +217,20 @@ pub append-5 : (p q r s t : List ℕ) → (((p ++ q) ++ r) ++ s) ++ t ≡ p ++ (
 append-5 p q r s t = simp append-assoc
 
 -- the room that a line takes
-pub length-resultText≤42 : (answer : ℕ) (shown : Shown) → length (resultText answer shown) ≤ 42
+pub length-resultText : (answer : ℕ) (shown : Shown) → length (resultText answer shown) ≡ length (decimalText answer) + length (shownText shown) + 2
 unfolding resultText
-length-resultText≤42 answer shown =
-    simp length-append (omega (arith, length-decimalText≤20 answer, length-shownText≤20 shown))
+length-resultText answer shown = simp length-append (omega arith)
+
+pub length-totalText : (passed lines : ℕ) → length (totalText passed lines) ≡ length (decimalText passed) + length (decimalText lines) + 12
+unfolding totalText
+length-totalText passed lines = simp length-append (omega arith)
 
 pub length-totalText≤52 : (passed lines : ℕ) → length (totalText passed lines) ≤ 52
-unfolding totalText
 length-totalText≤52 passed lines =
-    simp length-append (omega (arith, length-decimalText≤20 passed, length-decimalText≤20 lines))
+    omega (arith, length-totalText passed lines, length-decimalText≤20 passed, length-decimalText≤20 lines)
 
 -- one more character of a text that is copied
-pub overwrite-next : (l text : List ℕ) (at i : ℕ) → i < length text → at + length text ≤ length l → set (overwrite l at (take i text)) (at + i) (getD text i 0) ≡ overwrite l at (take (i + 1) text)
+pub overwrite-next : (l text : List ℕ) (at i : ℕ) → i < length text → at + i < length l → set (overwrite l at (take i text)) (at + i) (getD text i 0) ≡ overwrite l at (take (i + 1) text)
 overwrite-next l text at i inside fits =
     let size : length (take i text) ≡ i = length-take-le i text (omega arith) in
     set≡overwrite (overwrite l at (take i text)) (at + i) (getD text i 0) (rw (length-overwrite l at (take i text) (omega arith)) (omega arith))

@@ -1,10 +1,9 @@
-// What the trace program prints, and how it gathers a line: document 01, "Trace lines".
+// What the trace program prints: document 01, "Trace lines".
 ghost use mathlib.Core.Path.{_≡_};
 ghost use Prim.Native.Nat.{_+_, _≤_, _<_};
 ghost use lib.ListN.{length};
 ghost use Rattle.octets.specs.Overwrite.{overwrite};
 ghost use Rattle.report.specs.Text.{digitCount, decimalDigits, decimalText, shownText, shownPlace, resultText, totalText};
-ghost use Rattle.report.specs.Gathering.{withByte, usedAfter};
 
 // What a result's line shows after the answer.
 pub enum Shown {
@@ -42,8 +41,8 @@ fn write_digits(out: &mut [u8], at: usize, n: usize, value: u64)
 }
 
 // Writes a number from at on, and gives where it ends.
-pub fn put_decimal(out: &mut [u8], at: usize, value: u64) -> usize
-    requires { ⌜ at + 20 ≤ length (now out) ⌝ }
+fn put_decimal(out: &mut [u8], at: usize, value: u64) -> usize
+    requires { ⌜ at + length (decimalText value) ≤ length (now out) ⌝ }
     ensures { λ r. ⌜ (r ≡ at + length (decimalText value)) × (now (out .exit) ≡ overwrite (now (out .entry)) at (decimalText value)) ⌝ }
 {
     let n = digit_count(value);
@@ -65,7 +64,7 @@ fn put_text(out: &mut [u8], at: usize, text: &[u8]) -> usize
 }
 
 fn put_shown(out: &mut [u8], at: usize, shown: Shown) -> usize
-    requires { ⌜ at + 20 ≤ length (now out) ⌝ }
+    requires { ⌜ at + length (shownText shown) ≤ length (now out) ⌝ }
     ensures { λ r. ⌜ (r ≡ at + length (shownText shown)) × (now (out .exit) ≡ overwrite (now (out .entry)) at (shownText shown)) ⌝ }
 {
     match shown {
@@ -76,7 +75,7 @@ fn put_shown(out: &mut [u8], at: usize, shown: Shown) -> usize
 
 // Writes the line of an answer from at on, and gives where it ends.
 pub fn put_result(out: &mut [u8], at: usize, answer: u32, shown: Shown) -> usize
-    requires { ⌜ at + 43 ≤ length (now out) ⌝ }
+    requires { ⌜ at + length (resultText answer shown) ≤ length (now out) ⌝ }
     ensures { λ r. ⌜ (r ≡ at + length (resultText answer shown)) × (now (out .exit) ≡ overwrite (now (out .entry)) at (resultText answer shown)) ⌝ }
 {
     let space = put_decimal(out, at, answer as u64);
@@ -97,7 +96,7 @@ pub fn shown_place(place: usize) -> Shown
 
 // Writes the last line from at on, and gives where it ends.
 pub fn put_total(out: &mut [u8], at: usize, passed: u64, lines: u64) -> usize
-    requires { ⌜ at + 53 ≤ length (now out) ⌝ }
+    requires { ⌜ at + length (totalText passed lines) ≤ length (now out) ⌝ }
     ensures { λ r. ⌜ (r ≡ at + length (totalText passed lines)) × (now (out .exit) ≡ overwrite (now (out .entry)) at (totalText passed lines)) ⌝ }
 {
     let first = put_text(out, at, b"passed ");
@@ -105,15 +104,4 @@ pub fn put_total(out: &mut [u8], at: usize, passed: u64, lines: u64) -> usize
     let second = put_text(out, word, b" of ");
     let end = put_decimal(out, second, lines);
     put_text(out, end, b"\n")
-}
-
-// Keeps a line's next byte while the line has room for it, and gives how many bytes it holds.
-pub fn gather(line: &mut [u8], used: usize, byte: u8) -> usize
-    ensures { λ r. ⌜ (r ≡ usedAfter (now (line .entry)) used) × (now (line .exit) ≡ withByte (now (line .entry)) used byte) ⌝ }
-{
-    if used < line.len() {
-        line[used] = byte;
-        return used + 1;
-    }
-    used
 }

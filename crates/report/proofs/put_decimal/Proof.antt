@@ -1,6 +1,7 @@
 -- The digits that were counted are those that are written.
 use Prim.Native.Nat.{_+_}
 use mathlib.Core.Path.{sym, ap, _∙_}
+use native.Mathlib.Omega.{arith}
 use Rattle.octets.specs.Overwrite.{overwrite}
 use Rattle.report.specs.Text.{decimalDigits, decimalText}
 use Rattle.report.proofs.Text.{length-decimalText}
@@ -12,10 +13,11 @@ digit-count-requires : tie.Need-digit-count-requires
 digit-count-requires c κs = search needs
 
 write-digits-requires : tie.Need-write-digits-requires
-write-digits-requires c κs = search needs
+write-digits-requires c κs =
+    omega (arith, length-decimalText (c .before .before .before .args .value))
 
 add-result : tie.Need-add-result
-add-result c = search needs
+add-result c = omega (arith, length-decimalText (c .before .before .before .before .before .before .args .value))
 
 same-length : tie.Need-same-length
 same-length c = search needs

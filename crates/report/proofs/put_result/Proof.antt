@@ -2,28 +2,28 @@
 use native.Mathlib.Omega.{arith}
 use mathlib.Core.List.{[], _∷_}
 use Rattle.report.specs.Text.{decimalText, shownText, resultText}
-use Rattle.report.proofs.Text.{length-decimalText≤20, length-shownText≤20, written-then, written-as, append-4}
+use Rattle.report.proofs.Text.{length-resultText, written-then, written-as, append-4}
 use borrow.Author.Needs.{needs}
 use Rattle.report.proofs.put_result.Statement.{statement}
 use Rattle.report.proofs.put_result.Tie as tie
 
 put-decimal-requires : tie.Need-put-decimal-requires
-put-decimal-requires c κs = search needs
+put-decimal-requires c κs = let a = c .before .before .args in omega (arith, length-resultText (a .answer) (a .shown))
 
 slice-aggregate-put-text : tie.Need-slice-aggregate-put-text
 slice-aggregate-put-text c = search needs
 
 put-text-requires : tie.Need-put-text-requires
-put-text-requires c κs = omega (arith, length-decimalText≤20 (c .before .before .before .before .before .before .before .args .answer))
+put-text-requires c κs = let a = c .before .before .before .before .before .before .before .args in omega (arith, length-resultText (a .answer) (a .shown))
 
 put-shown-requires : tie.Need-put-shown-requires
-put-shown-requires c κs = omega (arith, length-decimalText≤20 (c .before .before .before .before .before .before .before .before .before .before .before .args .answer))
+put-shown-requires c κs = let a = c .before .before .before .before .before .before .before .before .before .before .before .args in omega (arith, length-resultText (a .answer) (a .shown))
 
 slice-aggregate-put-text-2 : tie.Need-slice-aggregate-put-text-2
 slice-aggregate-put-text-2 c = search needs
 
 put-text-requires-2 : tie.Need-put-text-requires-2
-put-text-requires-2 c κs = let a = c .before .before .before .before .before .before .before .before .before .before .before .before .before .before .before .before .args in omega (arith, length-decimalText≤20 (a .answer), length-shownText≤20 (a .shown))
+put-text-requires-2 c κs = let a = c .before .before .before .before .before .before .before .before .before .before .before .before .before .before .before .before .args in omega (arith, length-resultText (a .answer) (a .shown))
 
 same-length : tie.Need-same-length
 same-length c = search needs
@@ -41,11 +41,10 @@ returns c =
     let space = at2 .put-text .ensures in
     let shown = at3 .put-shown .ensures in
     let newline = at4 .put-text2 .ensures in
-    let short1 = length-decimalText≤20 (a .answer) in
-    let short2 = length-shownText≤20 (a .shown) in
-    let two = written-then (a .out .now) _ _ (a .at) _ _ (decimalText (a .answer)) (32 ∷ []) (omega (arith, start .pre, answer .0, short1)) answer space in
-    let three = written-then (a .out .now) _ _ (a .at) _ _ _ (shownText (a .shown)) (omega (arith, start .pre, answer .0, space .0, short1)) two shown in
-    let four = written-then (a .out .now) _ _ (a .at) _ _ _ (10 ∷ []) (omega (arith, start .pre, answer .0, space .0, shown .0, short1, short2)) three newline in
+    let room = length-resultText (a .answer) (a .shown) in
+    let two = written-then (a .out .now) _ _ (a .at) _ _ (decimalText (a .answer)) (32 ∷ []) (omega (arith, start .pre, answer .0, room)) answer space in
+    let three = written-then (a .out .now) _ _ (a .at) _ _ _ (shownText (a .shown)) (omega (arith, start .pre, answer .0, space .0, room)) two shown in
+    let four = written-then (a .out .now) _ _ (a .at) _ _ _ (10 ∷ []) (omega (arith, start .pre, answer .0, space .0, shown .0, room)) three newline in
     written-as _ _ _ _ _ _ (append-4 (decimalText (a .answer)) (32 ∷ []) (shownText (a .shown)) (10 ∷ [])) four
 
 pub put-result-spec : {M : Type 1} → statement M

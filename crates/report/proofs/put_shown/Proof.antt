@@ -1,4 +1,7 @@
 -- In each arm the text is the variant's.
+use mathlib.Core.Path.{ap}
+use native.Mathlib.Omega.{arith}
+use lib.ListN.{length}
 use Rattle.report.proofs.Text.{shownText-number, shownText-dash}
 use borrow.Author.Needs.{needs}
 use Rattle.report.proofs.put_shown.Statement.{statement}
@@ -8,7 +11,8 @@ enum-known-shown : tie.Need-enum-known-shown
 enum-known-shown c = search needs
 
 put-decimal-requires : tie.Need-put-decimal-requires
-put-decimal-requires c κs = search needs
+put-decimal-requires c κs =
+    let shown = c .before .before .shown .given in omega (arith, ap length (shownText-number _ _ (shown .1)))
 
 enum-told : tie.Need-enum-told
 enum-told c = search needs
@@ -17,7 +21,7 @@ slice-aggregate-put-text : tie.Need-slice-aggregate-put-text
 slice-aggregate-put-text c = search needs
 
 put-text-requires : tie.Need-put-text-requires
-put-text-requires c κs = search needs
+put-text-requires c κs = omega (arith, ap length (shownText-dash _ (c .before .before .enum-told .given .1)))
 
 same-length : tie.Need-same-length
 same-length c = search needs

@@ -2,7 +2,7 @@
 use native.Mathlib.Omega.{arith}
 use mathlib.Core.List.{[], _∷_}
 use Rattle.report.specs.Text.{passedText, ofText, decimalText, totalText}
-use Rattle.report.proofs.Text.{length-decimalText≤20, written-then, written-as, append-5}
+use Rattle.report.proofs.Text.{length-totalText, written-then, written-as, append-5}
 use borrow.Author.Needs.{needs}
 use Rattle.report.proofs.put_total.Statement.{statement}
 use Rattle.report.proofs.put_total.Tie as tie
@@ -11,27 +11,27 @@ slice-aggregate-put-text : tie.Need-slice-aggregate-put-text
 slice-aggregate-put-text c = search needs
 
 put-text-requires : tie.Need-put-text-requires
-put-text-requires c κs = search needs
+put-text-requires c κs = let a = c .before .before .before .args in omega (arith, length-totalText (a .passed) (a .lines))
 
 put-decimal-requires : tie.Need-put-decimal-requires
-put-decimal-requires c κs = search needs
+put-decimal-requires c κs = let a = c .before .before .before .before .before .before .before .args in omega (arith, length-totalText (a .passed) (a .lines))
 
 slice-aggregate-put-text-2 : tie.Need-slice-aggregate-put-text-2
 slice-aggregate-put-text-2 c = search needs
 
 put-text-requires-2 : tie.Need-put-text-requires-2
 put-text-requires-2 c κs =
-    let a = c .before .before .before .before .before .before .before .before .before .before .before .before .args in omega (arith, length-decimalText≤20 (a .passed), length-decimalText≤20 (a .lines))
+    let a = c .before .before .before .before .before .before .before .before .before .before .before .before .args in omega (arith, length-totalText (a .passed) (a .lines))
 
 put-decimal-requires-2 : tie.Need-put-decimal-requires-2
 put-decimal-requires-2 c κs =
-    let a = c .before .before .before .before .before .before .before .before .before .before .before .before .before .before .before .before .args in omega (arith, length-decimalText≤20 (a .passed), length-decimalText≤20 (a .lines))
+    let a = c .before .before .before .before .before .before .before .before .before .before .before .before .before .before .before .before .args in omega (arith, length-totalText (a .passed) (a .lines))
 
 slice-aggregate-put-text-3 : tie.Need-slice-aggregate-put-text-3
 slice-aggregate-put-text-3 c = search needs
 
 put-text-requires-3 : tie.Need-put-text-requires-3
-put-text-requires-3 c κs = let a = c .before .before .before .before .before .before .before .before .before .before .before .before .before .before .before .before .before .before .before .before .before .args in omega (arith, length-decimalText≤20 (a .passed), length-decimalText≤20 (a .lines))
+put-text-requires-3 c κs = let a = c .before .before .before .before .before .before .before .before .before .before .before .before .before .before .before .before .before .before .before .before .before .args in omega (arith, length-totalText (a .passed) (a .lines))
 
 same-length : tie.Need-same-length
 same-length c = search needs
@@ -51,12 +51,11 @@ returns c =
     let of = at3 .put-text2 .ensures in
     let lines = at4 .put-decimal2 .ensures in
     let newline = at5 .put-text3 .ensures in
-    let short1 = length-decimalText≤20 (a .passed) in
-    let short2 = length-decimalText≤20 (a .lines) in
+    let room = length-totalText (a .passed) (a .lines) in
     let two = written-then (a .out .now) _ _ (a .at) _ _ passedText (decimalText (a .passed)) (omega (arith, start .pre, word .0)) word passed in
-    let three = written-then (a .out .now) _ _ (a .at) _ _ _ ofText (omega (arith, start .pre, word .0, passed .0, short1)) two of in
-    let four = written-then (a .out .now) _ _ (a .at) _ _ _ (decimalText (a .lines)) (omega (arith, start .pre, word .0, passed .0, of .0, short1)) three lines in
-    let five = written-then (a .out .now) _ _ (a .at) _ _ _ (10 ∷ []) (omega (arith, start .pre, word .0, passed .0, of .0, lines .0, short1, short2)) four newline in
+    let three = written-then (a .out .now) _ _ (a .at) _ _ _ ofText (omega (arith, start .pre, word .0, passed .0, room)) two of in
+    let four = written-then (a .out .now) _ _ (a .at) _ _ _ (decimalText (a .lines)) (omega (arith, start .pre, word .0, passed .0, of .0, room)) three lines in
+    let five = written-then (a .out .now) _ _ (a .at) _ _ _ (10 ∷ []) (omega (arith, start .pre, word .0, passed .0, of .0, lines .0, room)) four newline in
     written-as _ _ _ _ _ _ (append-5 passedText (decimalText (a .passed)) ofText (decimalText (a .lines)) (10 ∷ [])) five
 
 pub put-total-spec : {M : Type 1} → statement M

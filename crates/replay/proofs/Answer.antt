@@ -1,0 +1,130 @@
+-- Laws of a line's result: how it goes by the reader's answer, that its text is short, and that a line cut at 4,112 bytes has it.
+use Prim.Native.Nat.{ℕ, _+_, _≤_, _<_}
+use mathlib.Core.Path.{_≡_, refl, sym, ap, _∙_}
+use mathlib.Core.Logic.{⊎-elim}
+use mathlib.Core.List.{List}
+use native.Mathlib.Omega.{arith}
+use lib.ListN.{length, take, drop, length-take}
+use lib.Seq.{take-all}
+use borrow.Author.Tests.{ltb-false}
+use Rattle.choice.proofs.Choice.{if-cases, if-=, if-=-not}
+use Rattle.choice.proofs.Tests.{lt-or-ge}
+use Rattle.octets.specs.Overwrite.{overwrite}
+use Rattle.octets.proofs.Digits.{length-tabulate}
+use Rattle.octets.proofs.Overwrite.{overwrite-there}
+use Rattle.trace.specs.Line.{packetLength, packetOf}
+use Rattle.trace.specs.Read.{readLine, packetAfter, readAnswer}
+use Rattle.trace.specs.declared.LineRead.{LineRead}
+use Rattle.trace.specs.declared.LineRead.the-variants.{TooLong, Malformed, NoRoom, Frame}
+use Rattle.trace.proofs.Read.{firstIllegal≤length, readLine-too-long}
+use Rattle.report.specs.Text.{shownText, shownPlace, resultText, totalText}
+use Rattle.report.specs.declared.Shown.{Shown}
+use Rattle.report.specs.declared.Shown.the-variants.{Number, Dash}
+use Rattle.report.proofs.Text.{length-decimalText≤, length-resultText}
+use Rattle.filter.specs.Call.{outcomeOf, replyOf, tableAfter}
+use Rattle.filter.specs.Outcome.{Outcome, Blocked, Passed}
+use Rattle.filter.specs.declared.Reply.{Reply}
+use Rattle.filter.proofs.Fits.{Within, outcome-within}
+use Rattle.replay.specs.Feed.{Memory, memory, withAnswer, withUsed, withResult, withLine, withTotal}
+use Rattle.replay.specs.Written.{resultRoom}
+use Rattle.replay.specs.declared.Progress.{Progress}
+use Rattle.replay.specs.Printed.{Result, room, ofCall, ofRead, resultOf}
+
+-- The reader's answer
+
+-- an offset lies in a line of at most 4,111 characters, and a packet fits
+abbrev Bounded : List ℕ → LineRead → Type 0
+Bounded line TooLong = Unit {0}
+Bounded line (Malformed offset) = offset ≤ 4111
+Bounded line NoRoom = Unit {0}
+Bounded line (Frame side clock n) = (n ≡ packetLength line) × (n ≤ room)
+
+-- each answer comes with the tests that it passed
+readLine-bounded : (line : List ℕ) → Bounded line (readLine line room)
+unfolding readLine
+readLine-bounded line =
+    if-cases (Bounded line) _ _ _ (λ _. tt)
+    (λ short. if-cases (Bounded line) _ _ _ (λ _. omega (arith, firstIllegal≤length line, ltb-false 4111 (length line) short))
+    (λ _. if-cases (Bounded line) _ _ _ (λ _. tt) (λ fits. (refl, ltb-false room (packetLength line) fits))))
+
+-- what the filter is shown: the packet of the line
+pub frame-packet : (line packet : List ℕ) (read : LineRead) (side clock n : ℕ) → read ≡ readLine line room → read ≡ Frame side clock n → length packet ≡ room → (n ≤ room) × (take n (drop 0 (packetAfter read line packet)) ≡ packetOf line)
+unfolding packetAfter packetOf
+frame-packet line packet read side clock n whole frame size =
+    let bounds : (n ≡ packetLength line) × (n ≤ room) = rw (← whole, frame) at (readLine-bounded line) in
+    let count : length (packetOf line) ≡ n = length-tabulate _ _ ∙ sym (bounds .0) in
+    (bounds .1, rw (frame, ← count) (overwrite-there packet 0 (packetOf line) (omega arith)))
+
+-- The result
+
+-- by the answer of the reader
+pub resultOf-read : (line t : List ℕ) (read : LineRead) → read ≡ readLine line room → resultOf line t ≡ ofRead read line t
+unfolding resultOf
+resultOf-read line t read e = ap (λ r. ofRead r line t) (sym e)
+
+-- the filter's answer to the packet of a line
+pub resultOf-frame : (line t packet after : List ℕ) (side clock n : ℕ) (reply : Reply) (shown : Shown) → Frame side clock n ≡ readLine line room → packet ≡ packetOf line → (reply ≡ replyOf (outcomeOf side clock t packet)) × (after ≡ tableAfter t (outcomeOf side clock t packet)) → shown ≡ shownPlace (reply .place) → _≡_ {A = Result} (record { answer = reply .answer; shown = shown; table = after }) (resultOf line t)
+resultOf-frame line t packet after side clock n reply shown whole is called place =
+    rw (resultOf-read line t (Frame side clock n) whole, ← is, place, called .1, called .0)
+
+-- a line that is cut where it is too long already is still too long
+pub resultOf-cut : (line t : List ℕ) → resultOf (take 4112 line) t ≡ resultOf line t
+resultOf-cut line t =
+    ⊎-elim
+    (λ (short : length line < 4112). ap (λ l. resultOf l t) (take-all 4112 line (omega arith)))
+    (λ (long : 4112 ≤ length line).
+    resultOf-read (take 4112 line) t TooLong (sym (readLine-too-long (take 4112 line) room (rw (length-take 4112 line) (omega arith))))
+    ∙ sym (resultOf-read line t TooLong (sym (readLine-too-long line room (omega arith)))))
+    (lt-or-ge (length line) 4112)
+
+-- The room that its text takes
+
+-- the text has at most 8 characters
+abbrev Short : Result → Type 0
+Short s = length (resultText (s .answer) (s .shown)) ≤ resultRoom
+
+-- 2 digits, a space, a dash and a newline
+dash-short : (t : List ℕ) (answer : ℕ) → answer < 100 → Short (record { answer = answer; shown = Dash; table = t })
+unfolding shownText
+dash-short t answer small = omega (arith, length-resultText answer Dash, length-decimalText≤ 1 answer small)
+
+-- 2 digits, a space, 4 digits and a newline
+number-short : (t : List ℕ) (answer n : ℕ) → answer < 100 → n < 10000 → Short (record { answer = answer; shown = Number n; table = t })
+unfolding shownText
+number-short t answer n small below =
+    omega (arith, length-resultText answer (Number n), length-decimalText≤ 1 answer small, length-decimalText≤ 3 n below)
+
+-- an answer of the filter is at most 15, and a place below 512
+call-short : (t : List ℕ) (o : Outcome) → Within t o → Short (ofCall t o)
+unfolding shownPlace
+call-short t (Blocked n) within =
+    rw (if-= {a = 65535} {b = 65535} Dash (Number 65535) refl) (dash-short t n (omega (arith, within .1)))
+call-short t (Passed p now e) within =
+    rw (if-=-not Dash (Number p) (λ (none : p ≡ 65535). omega (arith, within .0))) (number-short t 0 p (omega arith) (omega (arith, within .0)))
+
+-- the offset of a malformed line is at most 4,111
+read-short : (line t : List ℕ) (read : LineRead) → Bounded line read → Short (ofRead read line t)
+unfolding readAnswer
+read-short line t TooLong b = dash-short t 21 (omega arith)
+read-short line t (Malformed offset) b = number-short t 22 offset (omega arith) (omega arith)
+read-short line t NoRoom b = dash-short t 23 (omega arith)
+read-short line t (Frame side clock n) b = call-short t (outcomeOf side clock t (packetOf line)) (outcome-within side clock t (packetOf line))
+
+-- so it is for every line
+pub result-short : (line t : List ℕ) → length (resultText (resultOf line t .answer) (resultOf line t .shown)) ≤ resultRoom
+unfolding resultOf
+result-short line t = read-short line t (readLine line room) (readLine-bounded line)
+
+-- The end of a line
+
+-- a line's result, written and counted
+pub withLine-result : (m : Memory) (s : Result) (out : List ℕ) (r : Progress) → s ≡ resultOf (take (m .progress .kept) (m .line)) (m .table) → (r ≡ withAnswer (m .progress) (s .answer) (s .shown)) × (out ≡ overwrite (m .out) (m .progress .used) (resultText (s .answer) (s .shown))) → memory (s .table) (m .line) out r ≡ withLine m
+unfolding withLine
+withLine-result m s out r result put = rw (put .0, put .1) (ap (withResult m) result)
+
+-- The end of the input
+
+-- the totals, written
+pub withTotal-put : (m : Memory) (out : List ℕ) (used : ℕ) → (used ≡ m .progress .used + length (totalText (m .progress .passed) (m .progress .lines))) × (out ≡ overwrite (m .out) (m .progress .used) (totalText (m .progress .passed) (m .progress .lines))) → memory (m .table) (m .line) out (withUsed (m .progress) used) ≡ withTotal m
+unfolding withTotal
+withTotal-put m out used put = rw (put .0, put .1)

@@ -1,0 +1,3 @@
+pub mod Printed
+pub mod Feed
+pub mod Written
