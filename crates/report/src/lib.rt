@@ -41,7 +41,7 @@ fn write_digits(out: &mut [u8], at: usize, n: usize, value: u64)
 }
 
 // Writes a number from at on, and gives where it ends.
-fn put_decimal(out: &mut [u8], at: usize, value: u64) -> usize
+pub fn put_decimal(out: &mut [u8], at: usize, value: u64) -> usize
     requires { ⌜ at + length (decimalText value) ≤ length (now out) ⌝ }
     ensures { λ r. ⌜ (r ≡ at + length (decimalText value)) × (now (out .exit) ≡ overwrite (now (out .entry)) at (decimalText value)) ⌝ }
 {

@@ -1,5 +1,10 @@
 // Reads a script by lines and collects the output, for the programs that run one.
-ghost use Prim.Native.Nat.{_≤_, _<_};
+ghost use mathlib.Core.Path.{_≡_};
+ghost use Prim.Native.Nat.{_+_, _*_, _%_, _^_, _≤_, _<_, min};
+ghost use lib.ListN.{length, getD, drop};
+ghost use Rattle.report.specs.Text.{decimalText};
+ghost use Rattle.script.specs.Output.{withByte, withBytes};
+ghost use Rattle.script.specs.Fields.{decimalValue, decimalField, fieldsText};
 use libc::STDIN_FILENO;
 use libc::STDOUT_FILENO;
 use std::num::wrapping_add_u64;
@@ -32,19 +37,23 @@ pub struct LineEnd {
 
 impl Input {
     // Nothing is read yet.
-    pub fn start() -> Input {
+    pub fn start() -> Input
+        ensures { λ r. ⌜ r ≡ record { at = 0; have = 0 } ⌝ }
+    {
         Input { at: 0, have: 0 }
     }
 }
 
 pub fn least(a: usize, b: usize) -> usize
-    ensures { λ r. ⌜ (r ≤ a) × (r ≤ b) ⌝ }
+    ensures { λ r. ⌜ r ≡ min a b ⌝ }
 {
     if a < b { a } else { b }
 }
 
 // The next byte of standard input.
-fn next_byte(chunk: &mut Chunk, input: Input) -> Arrived {
+fn next_byte(chunk: &mut Chunk, input: Input) -> Arrived
+    ensures { λ r. ⌜ length (now (chunk .exit)) ≡ length (now (chunk .entry)) ⌝ }
+{
     let at = input.at;
     if at < least(input.have, 65536) {
         return Arrived::Byte(
@@ -62,9 +71,11 @@ fn next_byte(chunk: &mut Chunk, input: Input) -> Arrived {
     Arrived::Byte(chunk[0], Input { at: 1, have: n })
 }
 
-// Reads to the next newline or to the end of the input; what the line cannot hold is dropped.
+// Reads to the next newline or to the end of the input; what the line cannot hold is dropped. What standard input holds is free, and with
+// it the answer, the chunk's bytes and the line's first ones: promised is how far these reach, and that both buffers keep their lengths.
 pub fn next_line(chunk: &mut Chunk, line: &mut Line, start: Input) -> LineEnd
-    ensures { λ r. ⌜ r .length ≤ 4096 ⌝ }
+    ensures { λ r. ⌜ (r .length ≤ 4096) × (drop (r .length) (now (line .exit)) ≡ drop (r .length) (now (line .entry))) ⌝ }
+    ensures { λ r. ⌜ (length (now (line .exit)) ≡ length (now (line .entry))) × (length (now (chunk .exit)) ≡ length (now (chunk .entry))) ⌝ }
 {
     let mut input = start;
     let mut length: usize = 0;
@@ -105,7 +116,9 @@ pub fn next_line(chunk: &mut Chunk, line: &mut Line, start: Input) -> LineEnd
 }
 
 // The character at a place of a line, 0 past its end.
-pub fn character(line: &[u8], at: usize) -> u8 {
+pub fn character(line: &[u8], at: usize) -> u8
+    ensures { λ r. ⌜ r ≡ getD (now (line .entry)) at 0 ⌝ }
+{
     if at < line.len() {
         return line[at];
     }
@@ -113,7 +126,7 @@ pub fn character(line: &[u8], at: usize) -> u8 {
 }
 
 fn decimal_value(c: u8) -> u64
-    ensures { λ r. ⌜ r < 10 ⌝ }
+    ensures { λ r. ⌜ (r ≡ decimalValue c) × (r < 10) ⌝ }
 {
     match c {
         b'0'..=b'9' => (c - b'0') as u64,
@@ -121,20 +134,29 @@ fn decimal_value(c: u8) -> u64
     }
 }
 
-// A number with one more digit: exact below 2^64.
-fn with_digit(v: u64, c: u8) -> u64 {
-    wrapping_add_u64(v % 1844674407370955162 * 10, decimal_value(c))
+// A number with one more digit, modulo 2^64: its halves by themselves, since the product may not fit.
+fn with_digit(v: u64, c: u8) -> u64
+    ensures { λ r. ⌜ r ≡ (v * 10 + decimalValue c) % 2 ^ 64 ⌝ }
+{
+    let high = v / 4294967296 * 10 % 4294967296;
+    let low = v % 4294967296 * 10 + decimal_value(c);
+    wrapping_add_u64(high * 4294967296, low)
 }
 
-// The decimal number after so many spaces of a line, 0 where there is none.
-pub fn decimal_field(line: &[u8], at: usize) -> u64 {
+// The decimal number after so many spaces of a line, modulo 2^64; 0 where there is none.
+pub fn decimal_field(line: &[u8], at: usize) -> u64
+    ensures { λ r. ⌜ r ≡ decimalField (now (line .entry)) at ⌝ }
+{
     let mut v: u64 = 0;
-    let mut spaces: usize = 0;
+    let mut spaces = at;
     let mut i = 0;
     while i < line.len() {
         if line[i] == b' ' {
-            spaces += 1;
-        } else if spaces == at {
+            if spaces == 0 {
+                return v;
+            }
+            spaces -= 1;
+        } else if spaces == 0 {
             v = with_digit(v, line[i]);
         }
         i += 1;
@@ -142,8 +164,9 @@ pub fn decimal_field(line: &[u8], at: usize) -> u64 {
     v
 }
 
-// Adds a byte to the output, which is written where it is full.
+// Adds a byte to the output, which is written where it is full, and gives how much of it is in use.
 pub fn put(out: &mut Output, used: usize, b: u8) -> usize
+    ensures { λ r. ⌜ (now (out .exit), r) ≡ withByte (now (out .entry), used) b ⌝ }
     ensures { λ r. ⌜ r ≤ 65536 ⌝ }
 {
     if used < 65536 {
@@ -157,6 +180,7 @@ pub fn put(out: &mut Output, used: usize, b: u8) -> usize
 
 pub fn put_bytes(out: &mut Output, used: usize, bytes: &[u8]) -> usize
     requires { ⌜ used ≤ 65536 ⌝ }
+    ensures { λ r. ⌜ (now (out .exit), r) ≡ withBytes (now (out .entry), used) (now (bytes .entry)) ⌝ }
     ensures { λ r. ⌜ r ≤ 65536 ⌝ }
 {
     let mut n = used;
@@ -170,16 +194,18 @@ pub fn put_bytes(out: &mut Output, used: usize, bytes: &[u8]) -> usize
 
 pub fn put_decimal(out: &mut Output, used: usize, v: u64) -> usize
     requires { ⌜ used ≤ 65536 ⌝ }
+    ensures { λ r. ⌜ (now (out .exit), r) ≡ withBytes (now (out .entry), used) (decimalText v) ⌝ }
     ensures { λ r. ⌜ r ≤ 65536 ⌝ }
 {
     let mut digits = [0u8; 20];
-    let n = io::decimal(v, &mut digits);
-    put_bytes(out, used, &digits[..n])
+    let n = report::put_decimal(&mut digits, 0, v);
+    put_bytes(out, used, &digits[0..n])
 }
 
 // Adds numbers with a space between each two.
 pub fn put_fields(out: &mut Output, used: usize, first: u64, rest: &[u64]) -> usize
     requires { ⌜ used ≤ 65536 ⌝ }
+    ensures { λ r. ⌜ (now (out .exit), r) ≡ withBytes (now (out .entry), used) (fieldsText first (now (rest .entry))) ⌝ }
     ensures { λ r. ⌜ r ≤ 65536 ⌝ }
 {
     let mut n = put_decimal(out, used, first);
@@ -190,12 +216,4 @@ pub fn put_fields(out: &mut Output, used: usize, first: u64, rest: &[u64]) -> us
         i += 1;
     }
     n
-}
-
-// Writes what is left of the output.
-pub fn flush(out: &Output, used: usize)
-    requires { ⌜ used ≤ 65536 ⌝ }
-{
-    let all = &out[..];
-    io::write_all(STDOUT_FILENO, &all[0..used]);
 }

@@ -12,6 +12,7 @@
 //   ANSWER LENGTH TEXT
 // where HEX and TEXT are all NNNNN bytes, each '.' before, or '-' where there are none.
 ghost use Prim.Native.Nat.{_≤_, _<_};
+use libc::STDOUT_FILENO;
 use packet::Flow;
 use packet::PacketRead;
 use script::Chunk;
@@ -281,11 +282,19 @@ fn run(chunk: &mut Chunk, line: &mut Line, buffer: &mut Buffer, out: &mut Output
     used.output
 }
 
+// Writes what is left of the output.
+fn finish(out: &Output, used: usize)
+    requires { ⌜ used ≤ 65536 ⌝ }
+{
+    let all = &out[..];
+    io::write_all(STDOUT_FILENO, &all[0..used]);
+}
+
 fn main() {
     let mut chunk = [0u8; 65536];
     let mut line = [0u8; 4096];
     let mut buffer = [0u8; 66000];
     let mut out = [0u8; 65536];
     let n = run(&mut chunk, &mut line, &mut buffer, &mut out);
-    script::flush(&out, n);
+    finish(&out, n);
 }

@@ -1,14 +1,24 @@
--- The length stays within the line.
-use Prim.Native.Nat.{_≤_}
+-- The length stays within the line, and what is past it stays as it was.
+use Prim.Native.Nat.{ℕ, _+_, _≤_}
+use mathlib.Core.Path.{_≡_, sym, ap, _∙_}
+use mathlib.Core.List.{List}
+use native.Mathlib.Omega.{arith}
+use lib.ListN.{length, drop, set, length-set}
+use lib.Seq.{drop-drop, drop-set-lt}
 use borrow.Author.Needs.{needs}
 use Rattle.script.proofs.next_line.Statement.{statement}
 use Rattle.script.proofs.next_line.Tie as tie
 
+-- a byte stored in front of what is dropped is dropped with the next one
+drop-stored : (l m : List ℕ) (n b : ℕ) → drop n l ≡ drop n m → drop (n + 1) (set l n b) ≡ drop (n + 1) m
+drop-stored l m n b same =
+    drop-set-lt (n + 1) l n b (omega arith) ∙ sym (drop-drop 1 n l) ∙ ap (drop 1) same ∙ drop-drop 1 n m
+
 abbrev Inv-loop : tie.InvT-loop
-Inv-loop chunk₀ line₀ input₀ length₀ turns₀ chunk line input length turns = length ≤ 4096
+Inv-loop chunk₀ line₀ input₀ n₀ turns₀ chunk line input n turns = (n ≤ 4096) × (drop n line ≡ drop n line₀) × (length line ≡ length line₀) × (length chunk ≡ length chunk₀)
 
 abbrev μ-loop : tie.MeasureT-loop
-μ-loop chunk₀ line₀ input₀ length₀ turns₀ chunk line input length turns = turns
+μ-loop chunk₀ line₀ input₀ n₀ turns₀ chunk line input n turns = turns
 
 loop-holds : tie.Need-loop-holds Inv-loop μ-loop
 loop-holds c = search needs
@@ -41,7 +51,9 @@ loop-less : tie.Need-loop-less Inv-loop μ-loop
 loop-less c = search needs
 
 loop-again : tie.Need-loop-again Inv-loop μ-loop
-loop-again c = search needs
+loop-again c =
+    let l = c .before .before .before .before .before .before .before .before .loop in
+    (search needs, drop-stored (l .line) _ (l .length) _ (l .inv .1), simp length-set (l .inv .2), search needs)
 
 loop-less-2 : tie.Need-loop-less-2 Inv-loop μ-loop
 loop-less-2 c = search needs
