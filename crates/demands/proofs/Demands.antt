@@ -3,7 +3,7 @@ use Rattle.honest.proofs.Demand3.{demand3}
 use Rattle.honest.proofs.Demand2Machine.{stays-sound, demand2-of}
 use Rattle.demands.specs.Bytes.{SoundBytes, bytesMachine}
 use Rattle.demands.specs.Demands.{freshBytes, Demand2OnBytes, Demand3OnBytes, Demand3FromSound}
-use Rattle.demands.proofs.Sound.{fresh-bytes-sound, fresh-bytes-view}
+use Rattle.demands.proofs.Fresh.{fresh-bytes-sound, fresh-bytes-view}
 use Rattle.demands.proofs.Keeps.{bytes-keep}
 
 pub demand2-on-bytes : Demand2OnBytes

@@ -12,6 +12,7 @@ use Rattle.entry.specs.Typed.{Typed}
 use Rattle.entry.specs.declared.Entry.{Entry}
 use Rattle.filter.specs.Call.{placesIn, freeEntry, outcomeOf, replyOf, tableAfter}
 use Rattle.filter.specs.Outcome.{Outcome}
+use Rattle.filter.proofs.Free.{typed-free}
 use Rattle.filter.proofs.Rows.{sound-table-clock}
 use Rattle.honest.specs.Rows as rows
 use Rattle.honest.specs.Filter.{connections, SoundTable}
@@ -22,7 +23,9 @@ use Rattle.honest.proofs.SoundKept.{filter-sound}
 use Rattle.demands.specs.Bytes.{BytesCall, SoundBytes, viewEntry, viewOf, readingOf, bytesMachine}
 use Rattle.demands.proofs.Entries.{places-viewOf}
 use Rattle.demands.proofs.View.{view-after}
-use Rattle.demands.proofs.Sound.{sound-view, typed-view, sound-after, typed-entry, typed-free}
+use Rattle.demands.proofs.Sound.{sound-view, typed-view}
+use Rattle.demands.proofs.SoundAfter.{sound-after}
+use Rattle.demands.proofs.Typed.{typed-entry}
 use Rattle.demands.proofs.Reading.{asked-side, asked-clock, asks-placeable, reading-refused}
 use Rattle.demands.proofs.Outcome.{EndpointsFrom, Same, refuses, passes, call-same, outcome-blocked-keeps}
 use Rattle.demands.proofs.Endpoints.{asks-fits, left-fits}
@@ -81,7 +84,7 @@ module _ (t : List ℕ) (q : BytesCall) (a : rows.Ask IPv4) (s : SoundBytes t) (
     entry-typed from =
         let fits = left-fits t (a .key) p e (s .octets) (asks-fits q a asked) from in
         ⊎-elim (λ free. rw free typed-free)
-        (λ sound. typed-entry used e sound (used-small t q a s asked) (new-typed used (viewOf t .entries) p (viewEntry e) place-inside (left-sound .1)) record { address = fits .source; port = fits .sourcePort } record { address = fits .destination; port = fits .destinationPort })
+        (λ sound. typed-entry used e sound (used-small t q a s asked) (new-typed used (viewOf t .entries) p (viewEntry e) place-inside (left-sound .1)) fits)
         entry-sound
 
   same-left : (o : Outcome) → Same t a o → viewOf (tableAfter t o) ≡ rows.filter IPv4 connections (viewOf t) a .table

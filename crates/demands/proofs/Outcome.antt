@@ -16,7 +16,7 @@ use Rattle.connection.specs.declared.Verdict.{Verdict}
 use Rattle.connection.specs.declared.Verdict.the-variants.{Pass, NotAllowed, SequenceMissed, AckMissed}
 use Rattle.entry.specs.Layout.{placeAt, entryAt}
 use Rattle.entry.specs.declared.Entry.{Entry}
-use Rattle.table.specs.Table.{firstFrom, liveMatchAt, expiredAt}
+use Rattle.table.specs.Table.{firstFrom, liveMatchAt, vacantAt}
 use Rattle.table.specs.declared.Found.{Found}
 use Rattle.table.specs.declared.Found.the-variants.{At, Nothing}
 use Rattle.table.proofs.Places.{found-passes}
@@ -63,14 +63,14 @@ module _ (T : rows.Table IPv4 connections) (a : rows.Ask IPv4) where
   unfolding rows.unmatched
   unmatched-closed closed = if-false _ _ _ closed
 
-  unmatched-full : rows.opens IPv4 a ≡ true → length (T .entries) ≤ rows.lowestExpired IPv4 connections T a → rows.unmatched IPv4 connections T a ≡ rows.refuse IPv4 connections T 12
+  unmatched-full : rows.opens IPv4 a ≡ true → length (T .entries) ≤ rows.lowestVacant IPv4 connections T a → rows.unmatched IPv4 connections T a ≡ rows.refuse IPv4 connections T 12
   unfolding rows.unmatched
   unmatched-full opening full = if-true _ _ _ opening ∙ if-<-not _ _ full
 
-  unmatched-room : (p : ℕ) → rows.opens IPv4 a ≡ true → rows.lowestExpired IPv4 connections T a ≡ p → p < length (T .entries) → rows.unmatched IPv4 connections T a ≡ rows.pass IPv4 connections T a p (rows.entryMade IPv4 connections a (rows.clockUsed IPv4 connections T a))
+  unmatched-room : (p : ℕ) → rows.opens IPv4 a ≡ true → rows.lowestVacant IPv4 connections T a ≡ p → p < length (T .entries) → rows.unmatched IPv4 connections T a ≡ rows.pass IPv4 connections T a p (rows.entryMade IPv4 connections a (rows.clockUsed IPv4 connections T a))
   unfolding rows.unmatched
   unmatched-room p opening here inside =
-      let room : rows.lowestExpired IPv4 connections T a < length (T .entries) = omega (arith, here, inside) in
+      let room : rows.lowestVacant IPv4 connections T a < length (T .entries) = omega (arith, here, inside) in
       if-true _ _ _ opening ∙ if-< _ _ room ∙ ap (λ r. rows.pass IPv4 connections T a r (rows.entryMade IPv4 connections a (rows.clockUsed IPv4 connections T a))) here
 
 -- The call
@@ -116,15 +116,15 @@ module _ (t : List ℕ) (side clock : ℕ) (f : Flow) (g : Segment) where
 
   unmatched-same : firstFrom (liveMatchAt t now side (sourceOf f) (destinationOf f)) 0 (placesIn t) ≡ Nothing → Same t ask (unmatched t now side f g)
   unfolding unmatched openingEntry
-  unmatched-same found = go (true-or-false (rows.opens IPv4 ask)) (firstFrom (expiredAt t now) 0 (placesIn t)) refl
+  unmatched-same found = go (true-or-false (rows.opens IPv4 ask)) (firstFrom (vacantAt t now) 0 (placesIn t)) refl
     where
       none : reply ≡ rows.unmatched IPv4 connections (viewOf t) ask
       none = filter-unmatched (viewOf t) ask (omega (arith, places-viewOf t, search-same side clock f g t, ap (placeOr (placesIn t)) found))
 
-      lowest : (r : Found) → firstFrom (expiredAt t now) 0 (placesIn t) ≡ r → rows.lowestExpired IPv4 connections (viewOf t) ask ≡ placeOr (placesIn t) r
+      lowest : (r : Found) → firstFrom (vacantAt t now) 0 (placesIn t) ≡ r → rows.lowestVacant IPv4 connections (viewOf t) ask ≡ placeOr (placesIn t) r
       lowest r is = sym (lowest-same side clock f g t) ∙ ap (placeOr (placesIn t)) is
 
-      go : (rows.opens IPv4 ask ≡ true) ⊎ (rows.opens IPv4 ask ≡ false) → (r : Found) → firstFrom (expiredAt t now) 0 (placesIn t) ≡ r → Same t ask (if rows.opens IPv4 ask then onVacant (firstFrom (expiredAt t now) 0 (placesIn t)) now side f g else Blocked 11)
+      go : (rows.opens IPv4 ask ≡ true) ⊎ (rows.opens IPv4 ask ≡ false) → (r : Found) → firstFrom (vacantAt t now) 0 (placesIn t) ≡ r → Same t ask (if rows.opens IPv4 ask then onVacant (firstFrom (vacantAt t now) 0 (placesIn t)) now side f g else Blocked 11)
       go (inr closed) r is = refuses 11 (if-false _ _ _ closed) (λ z. omega arith) (none ∙ unmatched-closed (viewOf t) ask closed)
       go (inl opening) Nothing is = refuses 12 (if-true _ _ _ opening ∙ ap (λ r. onVacant r now side f g) is) (λ z. omega arith) (none ∙ unmatched-full (viewOf t) ask opening (omega (arith, places-viewOf t, lowest Nothing is)))
       go (inl opening) (At p) is =

@@ -2,7 +2,7 @@
 use Prim.Native.Nat.{ℕ, zero, suc, _+_, _-_}
 use mathlib.Core.Path.{_≡_, refl, sym, ap, _∙_}
 use mathlib.Core.Logic.{_⊎_, inl, inr}
-use mathlib.Core.Bool.{Bool, true, false, _&&_}
+use mathlib.Core.Bool.{Bool, true, false, _&&_, and-assoc, and-comm}
 use mathlib.Core.List.{List}
 use native.Mathlib.Omega.{arith}
 use Rattle.choice.specs.Choice.{if_then_else_, _=ᵇ_}
@@ -13,13 +13,13 @@ use Rattle.packet.specs.declared.Flow.{Flow}
 use Rattle.entry.specs.Layout.{placeAt, entryAt}
 use Rattle.entry.specs.declared.Endpoint.{Endpoint}
 use Rattle.entry.specs.declared.Entry.{Entry}
-use Rattle.table.specs.Table.{firstFrom, sameEndpoint, fromOpener, fromAnswerer, liveMatchAt, expiredAt}
+use Rattle.table.specs.Table.{firstFrom, sameEndpoint, between, fromOpener, fromAnswerer, liveMatchAt, vacantAt}
 use Rattle.table.specs.declared.Found.{Found}
 use Rattle.table.specs.declared.Found.the-variants.{At, Nothing}
 use Rattle.filter.specs.Call.{placesIn, clockUsed, sourceOf, destinationOf, senderOf}
 use Rattle.honest.specs.Rows as rows
 use Rattle.honest.specs.Filter.{connections}
-use Rattle.honest.specs.IPv4.{Addresses, sameAddresses, IPv4}
+use Rattle.honest.specs.IPv4.{Addresses, sameAddresses, swapped, IPv4}
 use Rattle.demands.specs.Bytes.{viewEntry, entriesFrom, viewOf, addressesOf}
 
 -- the place found, or a number where none was
@@ -50,13 +50,16 @@ first-of-all t test test' same k = ap (λ n. placeOr n (firstFrom test 0 k)) (om
 abbrev pub addressesBetween : Endpoint → Endpoint → Addresses
 addressesBetween x y = record { source = x .address; sourcePort = x .port; destination = y .address; destinationPort = y .port }
 
-two-and-two : (a b c d : Bool) → (a && b) && (c && d) ≡ a && (b && (c && d))
-two-and-two true b c d = refl
-two-and-two false b c d = refl
+-- an entry between two endpoints: as addresses and ports, and as those the other way round
+between-same : (e : Entry) (x y : Endpoint) → between e x y ≡ sameAddresses (addressesBetween x y) (viewEntry e .key)
+unfolding between
+between-same e x y = and-assoc (x .address =ᵇ e .opener .address) (x .port =ᵇ e .opener .port) (sameEndpoint y (e .answerer))
 
--- from and to against two endpoints: as addresses and ports
-endpoints-same : (from to x y : Endpoint) → sameEndpoint from x && sameEndpoint to y ≡ sameAddresses (addressesBetween from to) (addressesBetween x y)
-endpoints-same from to x y = two-and-two (from .address =ᵇ x .address) (from .port =ᵇ x .port) (to .address =ᵇ y .address) (to .port =ᵇ y .port)
+between-reversed : (e : Entry) (x y : Endpoint) → between e x y ≡ sameAddresses (addressesBetween y x) (swapped (viewEntry e .key))
+unfolding between
+between-reversed e x y =
+    and-comm (sameEndpoint x (e .opener)) (sameEndpoint y (e .answerer))
+    ∙ and-assoc (y .address =ᵇ e .answerer .address) (y .port =ᵇ e .answerer .port) (sameEndpoint x (e .opener))
 
 module _ (side clock : ℕ) (f : Flow) (g : Segment) where
   -- what the call asks
@@ -65,11 +68,11 @@ module _ (side clock : ℕ) (f : Flow) (g : Segment) where
 
   pub opener-same : (e : Entry) → fromOpener e side (sourceOf f) (destinationOf f) ≡ rows.fromOpener IPv4 connections (viewEntry e) askOf
   unfolding fromOpener
-  opener-same e = ap (λ b. (side =ᵇ e .connection .side) && b) (endpoints-same (sourceOf f) (destinationOf f) (e .opener) (e .answerer))
+  opener-same e = ap (λ b. (side =ᵇ e .connection .side) && b) (between-same e (sourceOf f) (destinationOf f))
 
   pub answerer-same : (e : Entry) → fromAnswerer e side (sourceOf f) (destinationOf f) ≡ rows.fromAnswerer IPv4 connections (viewEntry e) askOf
   unfolding fromAnswerer
-  answerer-same e = ap (λ b. (side =ᵇ 1 - e .connection .side) && b) (endpoints-same (sourceOf f) (destinationOf f) (e .answerer) (e .opener))
+  answerer-same e = ap (λ b. (side =ᵇ 1 - e .connection .side) && b) (between-reversed e (destinationOf f) (sourceOf f))
 
   pub sender-same : (e : Entry) → senderOf e side f ≡ rows.senderOf IPv4 connections (viewEntry e) askOf
   unfolding senderOf rows.senderOf
@@ -85,6 +88,6 @@ module _ (side clock : ℕ) (f : Flow) (g : Segment) where
     pub search-same : placeOr (placesIn t) (firstFrom (liveMatchAt t (clockUsed t clock) side (sourceOf f) (destinationOf f)) 0 (placesIn t)) ≡ rows.search IPv4 connections (viewOf t) askOf
     search-same = first-of-all t _ (rows.liveMatch IPv4 connections (clockUsed t clock) askOf) (live-match-same t (clockUsed t clock)) (placesIn t)
 
-    pub lowest-same : placeOr (placesIn t) (firstFrom (expiredAt t (clockUsed t clock)) 0 (placesIn t)) ≡ rows.lowestExpired IPv4 connections (viewOf t) askOf
-    unfolding expiredAt
+    pub lowest-same : placeOr (placesIn t) (firstFrom (vacantAt t (clockUsed t clock)) 0 (placesIn t)) ≡ rows.lowestVacant IPv4 connections (viewOf t) askOf
+    unfolding vacantAt
     lowest-same = first-of-all t _ (rows.expired IPv4 connections (clockUsed t clock)) (λ p. refl) (placesIn t)

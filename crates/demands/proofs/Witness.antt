@@ -23,7 +23,7 @@ use Rattle.demands.specs.Bytes.{BytesCall, SoundBytes, readingOf, bytesM
 use Rattle.demands.specs.Demands.{freshBytes}
 use Rattle.demands.specs.Packets.{fieldOctets, octetsIn, checksum, payloadOf, ipHeader, tcpHeader, pseudoHeader, packetOf, bytesCall}
 use Rattle.demands.specs.Witness.{bytesWitness}
-use Rattle.demands.proofs.Sound.{fresh-bytes-sound, fresh-bytes-view}
+use Rattle.demands.proofs.Fresh.{fresh-bytes-sound, fresh-bytes-view}
 use Rattle.demands.proofs.Keeps.{bytes-keep}
 use Rattle.demands.proofs.Demands.{demand3-on-bytes}
 

@@ -5,6 +5,7 @@ use mathlib.Core.Bool.{true, not}
 use mathlib.Core.List.{List, [], _∷_}
 use lib.ListN.{length}
 use Rattle.choice.specs.Choice.{if_then_else_, _≤ᵇ_}
+use Rattle.octets.specs.Octets.{Octets}
 use Rattle.packet.specs.Read.{readPacket, causeNumber}
 use Rattle.packet.specs.declared.Flow.{Flow}
 use Rattle.packet.specs.declared.PacketRead.{PacketRead}
@@ -17,7 +18,6 @@ use Rattle.honest.specs.Rows as rows
 use Rattle.honest.specs.Filter.{connections}
 use Rattle.honest.specs.Machine.{Reading, refused, asks, Machine}
 use Rattle.honest.specs.IPv4.{Addresses, IPv4}
-use Rattle.demands.specs.Octets.{Octets}
 
 pub record BytesCall : Type 0 where
   pub side : ℕ

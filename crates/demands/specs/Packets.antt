@@ -3,11 +3,11 @@ use Prim.Native.Nat.{ℕ, _+_, _*_, _-_}
 use mathlib.Core.List.{List, [], _∷_, _++_}
 use lib.ListN.{replicate}
 use Rattle.octets.specs.BigEndian.{octetsOf}
+use Rattle.octets.proofs.Octets.{Bytes, bytes-[], bytes-++, bytes-octetsOf, bytes-replicate}
 use Rattle.segment.specs.Flags.{fin, syn}
 use Rattle.packet.specs.Sum.{onesSum}
 use Rattle.honest.specs.Rows.{Ask}
 use Rattle.honest.specs.IPv4.{IPv4}
-use Rattle.demands.specs.Octets.{Bytes, none, append, bytes-octetsOf, bytes-replicate}
 use Rattle.demands.specs.Bytes.{BytesCall}
 
 -- a header's field, of 8, 16 or 32 bits
@@ -72,12 +72,12 @@ bytes-field (u32 v) = bytes-octetsOf 4 v
 
 bytes-fields : (l : List Field) → Bytes (octetsIn l)
 unfolding octetsIn
-bytes-fields [] = none
-bytes-fields (f ∷ l) = append (bytes-field f) (bytes-fields l)
+bytes-fields [] = bytes-[]
+bytes-fields (f ∷ l) = bytes-++ (bytes-field f) (bytes-fields l)
 
 pub bytes-packet : (a : Ask IPv4) → Bytes (packetOf a)
 unfolding packetOf
-bytes-packet a = append (bytes-fields _) (bytes-replicate (payloadOf a))
+bytes-packet a = bytes-++ (bytes-fields _) (bytes-replicate (payloadOf a))
 
 -- the call that lends it
 abbrev pub bytesCall : Ask IPv4 → BytesCall

@@ -1,3 +1,4 @@
-pub mod Writes
 pub mod Sizes
+pub mod Agree
 pub mod RoundTrip
+pub mod Octets

@@ -30,7 +30,7 @@ pub struct Entry {
 }
 
 // One end's record: end, edge, win.
-fn load_end(table: &[u8], at: usize) -> End
+pub fn load_end(table: &[u8], at: usize) -> End
     requires { ⌜ at + 12 ≤ length (now table) ⌝ }
     ensures { λ r. ⌜ r ≡ endAt (now (table .entry)) at ⌝ }
 {

@@ -18,7 +18,7 @@ use Rattle.connection.specs.declared.Verdict.{Verdict}
 use Rattle.connection.specs.declared.Verdict.the-variants.{Pass, NotAllowed, SequenceMissed, AckMissed}
 use Rattle.entry.specs.Layout.{entrySize, placeAt, entryAt}
 use Rattle.entry.specs.declared.Entry.{Entry}
-use Rattle.table.specs.Table.{firstFrom, liveMatchAt, expiredAt}
+use Rattle.table.specs.Table.{firstFrom, liveMatchAt, vacantAt}
 use Rattle.table.specs.declared.Found.{Found}
 use Rattle.table.specs.declared.Found.the-variants.{At, Nothing}
 use Rattle.table.proofs.Places.{found-passes}
@@ -62,9 +62,9 @@ module _ (t : List ℕ) (long : 128 ≤ length t) (short : length t ≤ 32832) w
   module _ (now side : ℕ) (f : Flow) (g : Segment) where
     unmatched-within : Within t (unmatched t now side f g)
     unfolding unmatched
-    unmatched-within = if-either (Within t) _ _ _ (go (firstFrom (expiredAt t now) 0 (placesIn t)) refl) (omega arith, omega arith)
+    unmatched-within = if-either (Within t) _ _ _ (go (firstFrom (vacantAt t now) 0 (placesIn t)) refl) (omega arith, omega arith)
       where
-        go : (o : Found) → firstFrom (expiredAt t now) 0 (placesIn t) ≡ o → Within t (onVacant o now side f g)
+        go : (o : Found) → firstFrom (vacantAt t now) 0 (placesIn t) ≡ o → Within t (onVacant o now side f g)
         go (At p) found = place-within _ p now (openingEntry now side f g) found
         go Nothing found = (omega arith, omega arith)
 

@@ -4,7 +4,7 @@ use mathlib.Core.Path.{_≡_, sym, ap, _∙_}
 use mathlib.Core.Bool.{true, false, not, and-false}
 use mathlib.Core.List.{List}
 use lib.ListN.{length}
-use borrow.Author.Tests.{eq-eqb, ne-eqb, ltb-true, le-leb, lt-leb}
+use borrow.Author.Tests.{eq-eqb, ne-eqb, le-leb, lt-leb}
 use Rattle.choice.specs.Choice.{_=ᵇ_}
 use Rattle.choice.proofs.Choice.{if-true, if-false, if-≤, if-≤-not}
 use Rattle.choice.proofs.Tests.{&&-true, between-true}
@@ -15,8 +15,9 @@ use Rattle.connection.specs.Decision.{verdictOn}
 use Rattle.connection.specs.declared.Verdict.{Verdict}
 use Rattle.entry.specs.declared.Endpoint.{Endpoint}
 use Rattle.entry.specs.declared.Entry.{Entry}
-use Rattle.table.specs.Table.{firstFrom, headerClock, soundHeader, soundTable, liveMatchAt, expiredAt}
+use Rattle.table.specs.Table.{firstFrom, headerClock, soundHeader, soundTable, liveMatchAt, vacantAt}
 use Rattle.table.specs.declared.Found.{Found}
+use Rattle.table.proofs.Words.{header-clock-under}
 use Rattle.filter.specs.Call.{legalLength, placesIn, clockUsed, sourceOf, destinationOf, byVerdict, senderOf, entryAfter, onEntry, onVacant, unmatched, onFound, onSegment, onPacket, outcomeOf}
 use Rattle.filter.specs.Outcome.{Blocked, Passed}
 
@@ -26,8 +27,8 @@ legal-length-bounds n e = between-true 128 32832 n (&&-true (n % 64 =ᵇ 0) _ e 
 
 -- a sound table's clock is below 2^48, so that the clock used is
 pub sound-table-clock : (t : List ℕ) (n : ℕ) → soundTable t n ≡ true → headerClock t < 2 ^ 48
-unfolding soundTable soundHeader
-sound-table-clock t n e = ltb-true (headerClock t) (2 ^ 48) (&&-true _ _ (&&-true (soundHeader t) _ e .0) .0)
+unfolding soundTable
+sound-table-clock t n e = header-clock-under t (&&-true (soundHeader t) _ e .0)
 
 pub onEntry-by-verdict : (e : Entry) (p now side : ℕ) (f : Flow) (g : Segment) (v : Verdict) → verdictOn (e .connection) (senderOf e side f) g ≡ v → onEntry e p now side f g ≡ byVerdict v (Passed p now (entryAfter e (senderOf e side f) g now))
 unfolding onEntry
@@ -42,7 +43,7 @@ module _ (t : List ℕ) (now side : ℕ) (f : Flow) (g : Segment) where
   unfolding unmatched
   unmatched-not-syn h = if-false _ _ _ (simp (ne-eqb (g .flags) 2 h, and-false))
 
-  pub unmatched-syn : side ≡ 0 → g .flags ≡ 2 → (o : Found) → firstFrom (expiredAt t now) 0 (placesIn t) ≡ o → unmatched t now side f g ≡ onVacant o now side f g
+  pub unmatched-syn : side ≡ 0 → g .flags ≡ 2 → (o : Found) → firstFrom (vacantAt t now) 0 (placesIn t) ≡ o → unmatched t now side f g ≡ onVacant o now side f g
   unfolding unmatched
   unmatched-syn h k o e = if-true _ _ _ (rw (eq-eqb side 0 h, eq-eqb (g .flags) 2 k)) ∙ rw e
 

@@ -19,7 +19,7 @@ use Rattle.connection.specs.declared.Verdict.the-variants.{Pass, NotAllowed, Se
 use Rattle.entry.specs.Layout.{entrySize, placeAt, entryAt, entryBytes}
 use Rattle.entry.specs.declared.Endpoint.{Endpoint}
 use Rattle.entry.specs.declared.Entry.{Entry}
-use Rattle.table.specs.Table.{firstFrom, headerClock, soundTable, fromOpener, liveMatchAt, expiredAt}
+use Rattle.table.specs.Table.{firstFrom, headerClock, soundTable, fromOpener, liveMatchAt, vacantAt}
 use Rattle.table.specs.declared.Found.{Found}
 use Rattle.table.specs.declared.Found.the-variants.{At, Nothing}
 use Rattle.filter.specs.Outcome.{Outcome, Blocked, Passed}
@@ -85,7 +85,7 @@ onVacant (At p) now side f g = Passed p now (openingEntry now side f g)
 -- 11, unless it is SYN without ACK from side 0: flags hold FIN, SYN, RST and ACK alone, and row 10 has refused SYN with FIN or RST
 unfoldable pub unmatched : List ℕ → ℕ → ℕ → Flow → Segment → Outcome
 unmatched t now side f g =
-    if (side =ᵇ 0) && (g .flags =ᵇ SYN) then onVacant (firstFrom (expiredAt t now) 0 (placesIn t)) now side f g
+    if (side =ᵇ 0) && (g .flags =ᵇ SYN) then onVacant (firstFrom (vacantAt t now) 0 (placesIn t)) now side f g
     else Blocked 11
 
 abbrev pub onFound : Found → List ℕ → ℕ → ℕ → Flow → Segment → Outcome

@@ -15,7 +15,7 @@ use Rattle.connection.specs.Decision.{verdictOn, opened}
 use Rattle.connection.specs.declared.Verdict.{Verdict}
 use Rattle.connection.specs.declared.Verdict.the-variants.{Pass, NotAllowed, SequenceMissed, AckMissed}
 use Rattle.honest.specs.Keys.{Keys}
-use Rattle.honest.specs.Rows.{Bodies, Entry, Table, Ask, Reply, freeEntry, clockUsed, matches, senderOf, firstFrom, liveMatch, search, lowestExpired, refuse, pass, opens, entryAfter, byVerdict, filter, matched, unmatched}
+use Rattle.honest.specs.Rows.{Bodies, Entry, Table, Ask, Reply, freeEntry, clockUsed, matches, senderOf, firstFrom, liveMatch, search, lowestVacant, refuse, pass, opens, entryAfter, byVerdict, filter, matched, unmatched}
 use Rattle.honest.specs.Filter.{connections}
 
 module _ (K : Keys) (B : Bodies) where
@@ -131,7 +131,7 @@ module _ (K : Keys) where
     pub data Outcome : Type 0 where
       refuses : (filter K connections t a .answer ≡ 0 → ⊥) → filter K connections t a .table ≡ t → Outcome
       passes : (e : Entry K connections) → getD (t .entries) (search K connections t a) (freeEntry K connections) ≡ e → search K connections t a < length (t .entries) → clockUsed K connections t a < e .connection .deadline → filter K connections t a ≡ pass K connections t a (search K connections t a) (entryAfter K connections e (senderOf K connections e a) (a .segment) (clockUsed K connections t a)) → Outcome
-      makes : ((r : ℕ) → r < length (t .entries) → liveMatch K connections (clockUsed K connections t a) a (getD (t .entries) r (freeEntry K connections)) ≡ false) → lowestExpired K connections t a < length (t .entries) → a .side ≡ 0 → filter K connections t a ≡ pass K connections t a (lowestExpired K connections t a) (record { key = a .key; connection = opened (a .side) (a .segment) (clockUsed K connections t a) }) → Outcome
+      makes : ((r : ℕ) → r < length (t .entries) → liveMatch K connections (clockUsed K connections t a) a (getD (t .entries) r (freeEntry K connections)) ≡ false) → lowestVacant K connections t a < length (t .entries) → a .side ≡ 0 → filter K connections t a ≡ pass K connections t a (lowestVacant K connections t a) (record { key = a .key; connection = opened (a .side) (a .segment) (clockUsed K connections t a) }) → Outcome
 
     refusal : (n : ℕ) → 1 ≤ n → filter K connections t a ≡ refuse K connections t n → Outcome
     refusal n blocked is = refuses (λ (passed : filter K connections t a .answer ≡ 0). omega (arith, ap (λ (r : Reply K connections). r .answer) is)) (rw is)
@@ -150,9 +150,9 @@ module _ (K : Keys) where
 
     unmatched-outcome : length (t .entries) ≤ search K connections t a → Outcome
     unfolding filter unmatched
-    unmatched-outcome none = go (true-or-false (opens K a)) (lt-or-ge (lowestExpired K connections t a) (length (t .entries)))
+    unmatched-outcome none = go (true-or-false (opens K a)) (lt-or-ge (lowestVacant K connections t a) (length (t .entries)))
       where
-        go : (opens K a ≡ true) ⊎ (opens K a ≡ false) → (lowestExpired K connections t a < length (t .entries)) ⊎ (length (t .entries) ≤ lowestExpired K connections t a) → Outcome
+        go : (opens K a ≡ true) ⊎ (opens K a ≡ false) → (lowestVacant K connections t a < length (t .entries)) ⊎ (length (t .entries) ≤ lowestVacant K connections t a) → Outcome
         go (inr f) _ = refusal 11 (omega arith) (if-<-not _ _ none ∙ if-false _ _ _ f)
         go (inl o) (inr full) = refusal 12 (omega arith) (if-<-not _ _ none ∙ if-true _ _ _ o ∙ if-<-not _ _ full)
         go (inl o) (inl room) =

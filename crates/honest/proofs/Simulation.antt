@@ -16,7 +16,7 @@ use Rattle.segment.specs.declared.Segment.{Segment}
 use Rattle.connection.specs.declared.Verdict.{Verdict}
 use Rattle.connection.specs.declared.Verdict.the-variants.{Pass, NotAllowed, SequenceMissed, AckMissed}
 use Rattle.honest.specs.Keys.{Keys}
-use Rattle.honest.specs.Rows.{Bodies, Ask, opens, Entry, Table, Reply, freeEntry, clockUsed, matches, senderOf, firstFrom, search, lowestExpired, pass, entryMade, entryAfter, byVerdict, unmatched, matched, filter}
+use Rattle.honest.specs.Rows.{Bodies, Ask, opens, Entry, Table, Reply, freeEntry, clockUsed, matches, senderOf, firstFrom, search, lowestVacant, pass, entryMade, entryAfter, byVerdict, unmatched, matched, filter}
 use Rattle.honest.proofs.Search.{sender-known, found-live}
 
 module _ {K : Keys} {B C : Bodies} where
@@ -67,7 +67,7 @@ module _ {K : Keys} {B C : Bodies} where
       search-same : search K B t a ≡ search K C u a
       search-same = first-same _ _ (λ e f r. rw (clock-same, agree .deadline r, matches-same a r)) 0 (t .entries) (u .entries) (tables .places) (tables .entries)
 
-      lowest-same : lowestExpired K B t a ≡ lowestExpired K C u a
+      lowest-same : lowestVacant K B t a ≡ lowestVacant K C u a
       lowest-same = first-same _ _ (λ e f r. rw (clock-same, agree .deadline r)) 0 (t .entries) (u .entries) (tables .places) (tables .entries)
 
       -- a pass at the same place with related entries
@@ -107,8 +107,8 @@ module _ {K : Keys} {B C : Bodies} where
       unfolding unmatched
       unmatched-same =
           if-both (SameReply R) (opens K a) (opens K a) _ _ _ _ refl
-          (λ opening. if-both (SameReply R) (lowestExpired K B t a <ᵇ length (t .entries)) (lowestExpired K C u a <ᵇ length (u .entries)) _ _ _ _ (rw (lowest-same, tables .places))
-          (λ room. rw (← lowest-same) (pass-same (lowestExpired K B t a) (entryMade K B a (clockUsed K B t a)) (entryMade K C a (clockUsed K C u a)) (rw (← clock-same) (agree .made a (clockUsed K B t a) legal opening))))
+          (λ opening. if-both (SameReply R) (lowestVacant K B t a <ᵇ length (t .entries)) (lowestVacant K C u a <ᵇ length (u .entries)) _ _ _ _ (rw (lowest-same, tables .places))
+          (λ room. rw (← lowest-same) (pass-same (lowestVacant K B t a) (entryMade K B a (clockUsed K B t a)) (entryMade K C a (clockUsed K C u a)) (rw (← clock-same) (agree .made a (clockUsed K B t a) legal opening))))
           (λ full. record { answer = refl; place = refl; table = tables }))
           (λ closed. record { answer = refl; place = refl; table = tables })
 

@@ -98,8 +98,8 @@ module _ (K : Keys) (B : Bodies) where
   search t a = firstFrom (liveMatch (clockUsed t a) a) 0 (t .entries)
 
   -- an opening takes the lowest place that is free or expired
-  abbrev pub lowestExpired : Table → Ask K → ℕ
-  lowestExpired t a = firstFrom (expired (clockUsed t a)) 0 (t .entries)
+  abbrev pub lowestVacant : Table → Ask K → ℕ
+  lowestVacant t a = firstFrom (expired (clockUsed t a)) 0 (t .entries)
 
   -- a refusal changes nothing
   abbrev pub refuse : Table → ℕ → Reply
@@ -117,7 +117,7 @@ module _ (K : Keys) (B : Bodies) where
   unfoldable pub unmatched : Table → Ask K → Reply
   unmatched t a =
       if opens K a then
-      (if lowestExpired t a <ᵇ length (t .entries) then pass t a (lowestExpired t a) (entryMade a (clockUsed t a)) else refuse t 12)
+      (if lowestVacant t a <ᵇ length (t .entries) then pass t a (lowestVacant t a) (entryMade a (clockUsed t a)) else refuse t 12)
       else refuse t 11
 
   -- what a pass leaves of an entry; a reset frees it

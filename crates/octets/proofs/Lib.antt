@@ -1,3 +1,6 @@
 pub mod Digits
-pub mod BigEndian
 pub mod Overwrite
+pub mod Agree
+pub mod BigEndian
+pub mod LittleEndian
+pub mod Octets

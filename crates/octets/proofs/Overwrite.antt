@@ -1,12 +1,12 @@
 -- Laws of writing over a part of a list.
-use Prim.Native.Nat.{ℕ, suc, _+_, _≤_, _<_}
+use Prim.Native.Nat.{ℕ, suc, _+_, _-_, _≤_, _<_}
 use mathlib.Core.Path.{_≡_, refl, sym, ap, _∙_}
 use mathlib.Core.List.{List, [], _∷_, _++_, append-assoc}
 use native.Mathlib.Omega.{arith}
 use native.Mathlib.Nat.{add-zero, zero-add}
 use native.Mathlib.Numerals.{add-one}
-use lib.ListN.{length, take, drop, set, length-append, length-drop, take-append-drop}
-use lib.Seq.{length-take-le, take-at, drop-at, drop-drop, set-split, take-set-le, take-append-seam}
+use lib.ListN.{length, getD, take, drop, set, length-append, length-drop, take-append-drop}
+use lib.Seq.{getD-take, getD-drop, length-take-le, take-at, drop-at, drop-drop, set-split, take-set-le, take-append-seam}
 use Rattle.octets.specs.Digits.{tabulate}
 use Rattle.octets.specs.Overwrite.{overwrite}
 use Rattle.octets.proofs.Digits.{length-tabulate}
@@ -62,9 +62,38 @@ module _ (l : List ℕ) (at : ℕ) (vs : List ℕ) (fits : at + length vs ≤ le
       ∙ ap (λ (k : ℕ). drop k l) sum in
       rw (head, tail) (simp append-assoc)
 
--- the same, where the first part's length is told by an equation
+  -- octet by octet
+
+  pub getD-overwrite : (k : ℕ) → k < length vs → getD (overwrite l at vs) (at + k) 0 ≡ getD vs k 0
+  getD-overwrite k inside =
+      sym (getD-drop at (overwrite l at vs) k 0)
+      ∙ sym (getD-take (length vs) (drop at (overwrite l at vs)) k 0 inside)
+      ∙ ap (λ (p : List ℕ). getD p k 0) overwrite-there
+
+  pub getD-overwrite-before : (k : ℕ) → k < at → getD (overwrite l at vs) k 0 ≡ getD l k 0
+  getD-overwrite-before k before =
+      sym (getD-take at (overwrite l at vs) k 0 before) ∙ ap (λ (p : List ℕ). getD p k 0) take-overwrite ∙ getD-take at l k 0 before
+
+  pub getD-overwrite-after : (k : ℕ) → at + length vs ≤ k → getD (overwrite l at vs) k 0 ≡ getD l k 0
+  getD-overwrite-after k after =
+      let past : at + length vs + (k - (at + length vs)) ≡ k = omega arith in
+      ap (λ (j : ℕ). getD (overwrite l at vs) j 0) (sym past)
+      ∙ sym (getD-drop (at + length vs) (overwrite l at vs) (k - (at + length vs)) 0)
+      ∙ ap (λ (p : List ℕ). getD p (k - (at + length vs)) 0) drop-overwrite
+      ∙ getD-drop (at + length vs) l (k - (at + length vs)) 0
+      ∙ ap (λ (j : ℕ). getD l j 0) past
+
+-- a second part, where the first one's length is told by an equation
 pub overwrite-join : (l : List ℕ) (at n : ℕ) (vs ws : List ℕ) → length vs ≡ n → at + n ≤ length l → overwrite (overwrite l at vs) (at + n) ws ≡ overwrite l at (vs ++ ws)
 overwrite-join l at n vs ws e fits = rw (← e) (overwrite-append l at vs (rw e fits) ws)
+
+-- a write, then one just past it
+pub overwrite-both : {mid last : List ℕ} {n next : ℕ} (l : List ℕ) (at : ℕ) (vs ws : List ℕ) → mid ≡ overwrite l at vs → last ≡ overwrite mid next ws → length vs ≡ n → at + n ≡ next → next ≤ length l → last ≡ overwrite l at (vs ++ ws)
+overwrite-both {n = n} {next = next} l at vs ws first second size there fits =
+    second
+    ∙ ap (λ (k : List ℕ). overwrite k next ws) first
+    ∙ ap (λ (k : ℕ). overwrite (overwrite l at vs) k ws) (sym there)
+    ∙ overwrite-join l at n vs ws size (omega arith)
 
 -- a store just past a part that is still to be written makes that part one longer
 pub overwrite-set : (l : List ℕ) (at n v : ℕ) (vs : List ℕ) → length vs ≡ n → at + n < length l → overwrite (set l (at + n) v) at vs ≡ overwrite l at (vs ++ (v ∷ []))
@@ -91,3 +120,17 @@ set-set≡overwrite l at v w fits =
     let one : set l at v ≡ overwrite l at (v ∷ []) = set≡overwrite l at v (omega arith) in
     rw (one, set≡overwrite (overwrite l at (v ∷ [])) (at + 1) w (rw (length-overwrite l at (v ∷ []) (omega arith)) (omega arith)))
     (overwrite-join l at 1 (v ∷ []) (w ∷ []) refl (omega arith))
+
+-- four stores, side by side
+pub four-sets≡overwrite : (l : List ℕ) (at a b c d : ℕ) → at + 4 ≤ length l → set (set (set (set l at a) (at + 1) b) (at + 2) c) (at + 3) d ≡ overwrite l at (a ∷ b ∷ c ∷ d ∷ [])
+four-sets≡overwrite l at a b c d fits =
+    let half : List ℕ = overwrite l at (a ∷ b ∷ []) in
+    let first : set (set l at a) (at + 1) b ≡ half = set-set≡overwrite l at a b (omega arith) in
+    let same : length half ≡ length l = length-overwrite l at (a ∷ b ∷ []) (omega arith) in
+    let second : set (set half (at + 2) c) (at + 2 + 1) d ≡ overwrite half (at + 2) (c ∷ d ∷ []) =
+    set-set≡overwrite half (at + 2) c d (omega (arith, same)) in
+    let past : at + 2 + 1 ≡ at + 3 = omega arith in
+    ap (λ (k : List ℕ). set (set k (at + 2) c) (at + 3) d) first
+    ∙ ap (λ (k : ℕ). set (set half (at + 2) c) k d) (sym past)
+    ∙ second
+    ∙ overwrite-join l at 2 (a ∷ b ∷ []) (c ∷ d ∷ []) refl (omega arith)

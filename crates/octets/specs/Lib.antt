@@ -1,3 +1,5 @@
+pub mod Octets
 pub mod Digits
 pub mod BigEndian
+pub mod LittleEndian
 pub mod Overwrite

@@ -1,8 +1,9 @@
 // Big-endian numbers of 2, 4 and 8 octets in lent bytes, at an offset.
 ghost use mathlib.Core.Path.{_≡_};
-ghost use Prim.Native.Nat.{_+_, _≤_, _<_};
+ghost use Prim.Native.Nat.{_+_, _*_, _/_, _%_, _≤_, _<_};
 ghost use lib.ListN.{length};
 ghost use Rattle.octets.specs.BigEndian.{bigEndian, octetsOf};
+ghost use Rattle.octets.specs.LittleEndian.{littleEndian, FourOctets};
 ghost use Rattle.octets.specs.Overwrite.{overwrite};
 
 // A byte as a wider number; a call, so that a read asks for its index alone.
@@ -19,22 +20,34 @@ pub fn read16(s: &[u8], at: usize) -> u16
     (wide(s[at]) * 256 + wide(s[at + 1])) as u16
 }
 
+// Four octets with the first one lowest: written so, the sum is one load of the machine.
+pub fn little32(s: &[u8], at: usize) -> u32
+    requires { ⌜ at + 4 ≤ length (now s) ⌝ }
+    ensures { λ r. ⌜ r ≡ littleEndian (now (s .entry)) at ⌝ }
+    ensures octets { λ r. ⌜ FourOctets (now (s .entry)) at ⌝ }
+{
+    wide(s[at]) + wide(s[at + 1]) * 256 + wide(s[at + 2]) * 65536 + wide(s[at + 3]) * 16777216
+}
+
+// A word's octets the other way round: written so, one instruction.
+fn swapped(w: u32) -> u32
+    ensures { λ r. ⌜ r ≡ w % 256 * 16777216 + w / 256 % 256 * 65536 + w / 256 / 256 % 256 * 256 + w / 256 / 256 / 256 ⌝ }
+{
+    w % 256 * 16777216 + w / 256 % 256 * 65536 + w / 256 / 256 % 256 * 256 + w / 256 / 256 / 256
+}
+
 pub fn read32(s: &[u8], at: usize) -> u32
     requires { ⌜ at + 4 ≤ length (now s) ⌝ }
     ensures { λ r. ⌜ r ≡ bigEndian 4 (now (s .entry)) at ⌝ }
 {
-    let high = read16(s, at) as u32;
-    let low = read16(s, at + 2) as u32;
-    high * 65536 + low
+    swapped(little32(s, at))
 }
 
 pub fn read64(s: &[u8], at: usize) -> u64
     requires { ⌜ at + 8 ≤ length (now s) ⌝ }
     ensures { λ r. ⌜ r ≡ bigEndian 8 (now (s .entry)) at ⌝ }
 {
-    let high = read32(s, at) as u64;
-    let low = read32(s, at + 4) as u64;
-    high * 4294967296 + low
+    read32(s, at) as u64 * 4294967296 + read32(s, at + 4) as u64
 }
 
 pub fn write16(s: &mut [u8], at: usize, v: u16)

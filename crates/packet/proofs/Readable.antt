@@ -1,15 +1,14 @@
 -- Every segment that reading a packet gives is readable.
-use Prim.Native.Nat.{ℕ, _+_, _*_, _/_, _^_, _<_}
+use Prim.Native.Nat.{ℕ, _+_, _*_, _/_, _<_}
 use mathlib.Core.Path.{_≡_, refl, sym, _∙_}
 use mathlib.Core.Bool.{Bool, true, false}
 use mathlib.Core.List.{List}
 use native.Mathlib.Omega.{arith}
-use lib.ListN.{getD}
 use borrow.Author.Tests.{eq-eqb, eqb-true, eqb-false, not-false}
 use Rattle.choice.specs.Choice.{if_then_else_, _=ᵇ_}
 use Rattle.choice.proofs.Tests.{||-false}
-use Rattle.octets.specs.BigEndian.{bigEndian}
-use Rattle.octets.proofs.Digits.{number<base^n}
+use Rattle.octets.specs.Octets.{Octets}
+use Rattle.octets.proofs.BigEndian.{bigEndian<256^n}
 use Rattle.segment.specs.Flags.{fin, syn, rst, ack, control}
 use Rattle.segment.specs.Readable.{Readable}
 use Rattle.segment.specs.declared.Segment.{Segment}
@@ -52,12 +51,6 @@ module _ (p : List ℕ) (f : Flow) (g : Segment) (e : readPacket p ≡ Tcp f g) 
 
   pub segment-of : (f ≡ flowOf p (headerLength p)) × (g ≡ segmentOf p (headerLength p) (totalLength p))
   segment-of = let same = past-rows5to10 .1 in (cc, cc)
-
--- Bounds of the fields
-
-bigEndian<256^n : (n : ℕ) (l : List ℕ) (at : ℕ) → ((i : ℕ) → getD l i 0 < 256) → bigEndian n l at < 256 ^ n
-unfolding bigEndian
-bigEndian<256^n n l at small = number<base^n 256 (λ i. getD l (at + i) 0) n (λ i h. small (at + i))
 
 -- The flags
 
@@ -102,7 +95,7 @@ module _ (f n : ℕ) (fine : row10 f n ≡ Fine) where
 
 -- The segment
 
-segmentOf-readable : (p : List ℕ) (h t : ℕ) → ((i : ℕ) → getD p i 0 < 256) → t < 65536 → row10 (controlBits p h) (payload p h t) ≡ Fine → Readable (segmentOf p h t)
+segmentOf-readable : (p : List ℕ) (h t : ℕ) → Octets p → t < 65536 → row10 (controlBits p h) (payload p h t) ≡ Fine → Readable (segmentOf p h t)
 segmentOf-readable p h t octets small fine =
     let x : ℕ = controlBits p h in
     let n : ℕ = payload p h t in
@@ -118,7 +111,7 @@ segmentOf-readable p h t octets small fine =
       no-syn-fin = λ s. let none = row10-no-syn-fin x n fine (syn-x s) in (fin-control x ∙ none .0, rst-control x ∙ none .1);
     }
 
-pub read-readable : (p : List ℕ) (f : Flow) (g : Segment) → ((i : ℕ) → getD p i 0 < 256) → readPacket p ≡ Tcp f g → Readable g
+pub read-readable : (p : List ℕ) (f : Flow) (g : Segment) → Octets p → readPacket p ≡ Tcp f g → Readable g
 read-readable p f g octets e =
     rw (segment-of p f g e .1)
     (segmentOf-readable p (headerLength p) (totalLength p) octets (omega (arith, bigEndian<256^n 2 p 2 octets)) (past-rows5to10 p f g e .0))

@@ -3,8 +3,9 @@ use Prim.Native.Nat.{ℕ, suc, _+_, _-_, _*_, _/_, _%_, _≤_, _<_}
 use mathlib.Core.Path.{_≡_, refl, sym, _∙_}
 use mathlib.Core.List.{List, [], _∷_}
 use native.Mathlib.Omega.{arith}
-use lib.ListN.{length, getD, drop, drop-of-length-le}
+use lib.ListN.{length, drop, drop-of-length-le}
 use lib.Seq.{drop-cons}
+use Rattle.octets.specs.Octets.{Octets}
 use Rattle.octets.specs.BigEndian.{bigEndian}
 use Rattle.octets.proofs.BigEndian.{bigEndian-2}
 use Rattle.packet.specs.Sum.{onesPlus, onesSum, wordSum}
@@ -25,12 +26,8 @@ carried-add : (x y : ℕ) → carried (x + carried y) ≡ carried (x + y)
 unfolding carried
 carried-add x y = omega arith
 
--- the list holds octets
-Octets : List ℕ → Type 0
-Octets l = (i : ℕ) → getD l i 0 < 256
-
 onesSum≡carried : (l : List ℕ) → Octets l → onesSum l ≡ carried (wordSum l)
-unfolding onesSum wordSum Octets carried
+unfolding onesSum wordSum carried
 onesSum≡carried [] small = refl
 onesSum≡carried (a ∷ []) small = omega (arith, small 0)
 onesSum≡carried (a ∷ b ∷ l) small =
@@ -63,6 +60,5 @@ pub wordSum-past : (l : List ℕ) (i : ℕ) → length l ≤ i → wordSum (drop
 unfolding wordSum
 wordSum-past l i h = rw (drop-of-length-le l h)
 
-pub onesSum-fold : (l : List ℕ) → ((i : ℕ) → getD l i 0 < 256) → wordSum l < 4294967296 → onesSum l ≡ (wordSum l % 65536 + wordSum l / 65536) % 65536 + (wordSum l % 65536 + wordSum l / 65536) / 65536
-unfolding Octets
+pub onesSum-fold : (l : List ℕ) → Octets l → wordSum l < 4294967296 → onesSum l ≡ (wordSum l % 65536 + wordSum l / 65536) % 65536 + (wordSum l % 65536 + wordSum l / 65536) / 65536
 onesSum-fold l small h = onesSum≡carried l small ∙ sym (fold-fold≡carried (wordSum l) h)

@@ -1,78 +1,73 @@
--- Laws of a match: a segment is not from an end if one of the five tests fails; if four hold, the fifth decides.
-use Prim.Native.Nat.{ℕ, _-_, _≤_, _<_}
-use mathlib.Core.Path.{_≡_, refl}
-use mathlib.Core.Bool.{Bool, true, false, _&&_, _||_, and-false}
+-- Laws of a match: a connection is not between two endpoints if one of four tests fails, and if three hold the fourth decides; the
+-- side decides between which.
+use Prim.Native.Nat.{ℕ, _-_}
+use mathlib.Core.Path.{_≡_}
+use mathlib.Core.Bool.{true, false, _||_, and-true, and-false}
 use mathlib.Core.List.{List}
-use borrow.Author.Tests.{lt-ltb, le-ltb, eq-eqb, ne-eqb}
+use borrow.Author.Tests.{lt-ltb, le-ltb, leb-true, leb-false, eq-eqb, ne-eqb}
 use Rattle.choice.specs.Choice.{_=ᵇ_}
 use Rattle.entry.specs.Layout.{placeAt, entryAt}
 use Rattle.entry.specs.declared.Endpoint.{Endpoint}
 use Rattle.entry.specs.declared.Entry.{Entry}
-use Rattle.table.specs.Table.{fromOpener, fromAnswerer, liveMatchAt}
+use Rattle.table.specs.Table.{sameEndpoint, between, fromOpener, fromAnswerer, liveMatchAt, vacantAt}
 
-and-true : (t : Bool) → t && true ≡ t
-and-true true = refl
-and-true false = refl
+module _ (e : Entry) (x y : Endpoint) where
+  pub not-between-by-first-address : (x .address ≡ e .opener .address → ⊥) → between e x y ≡ false
+  unfolding between
+  not-between-by-first-address h = rw (ne-eqb (x .address) (e .opener .address) h)
+
+  pub not-between-by-second-address : (y .address ≡ e .answerer .address → ⊥) → between e x y ≡ false
+  unfolding between
+  not-between-by-second-address h = simp (ne-eqb (y .address) (e .answerer .address) h, and-false)
+
+  pub not-between-by-first-port : (x .port ≡ e .opener .port → ⊥) → between e x y ≡ false
+  unfolding between
+  not-between-by-first-port h = simp (ne-eqb (x .port) (e .opener .port) h, and-false)
+
+  pub between-by-second-port : x .address ≡ e .opener .address → y .address ≡ e .answerer .address → x .port ≡ e .opener .port → between e x y ≡ (y .port =ᵇ e .answerer .port)
+  unfolding between
+  between-by-second-port a b c =
+      rw (eq-eqb (x .address) (e .opener .address) a, eq-eqb (y .address) (e .answerer .address) b, eq-eqb (x .port) (e .opener .port) c)
+
+  pub not-between-by-first : sameEndpoint x (e .opener) ≡ false → between e x y ≡ false
+  unfolding between
+  not-between-by-first h = rw h
+
+  pub between-by-second : sameEndpoint x (e .opener) ≡ true → between e x y ≡ sameEndpoint y (e .answerer)
+  unfolding between
+  between-by-second h = rw h
 
 module _ (e : Entry) (side : ℕ) (from to : Endpoint) where
   pub opener-not-by-side : (side ≡ e .connection .side → ⊥) → fromOpener e side from to ≡ false
   unfolding fromOpener
   opener-not-by-side h = rw (ne-eqb side (e .connection .side) h)
 
-  pub opener-not-by-from-address : (from .address ≡ e .opener .address → ⊥) → fromOpener e side from to ≡ false
+  pub opener-by-endpoints : side ≡ e .connection .side → fromOpener e side from to ≡ between e from to
   unfolding fromOpener
-  opener-not-by-from-address h = simp (ne-eqb (from .address) (e .opener .address) h, and-false)
+  opener-by-endpoints h = rw (eq-eqb side (e .connection .side) h)
 
-  pub opener-not-by-from-port : (from .port ≡ e .opener .port → ⊥) → fromOpener e side from to ≡ false
+  pub opener-not-by-endpoints : between e from to ≡ false → fromOpener e side from to ≡ false
   unfolding fromOpener
-  opener-not-by-from-port h = simp (ne-eqb (from .port) (e .opener .port) h, and-false)
+  opener-not-by-endpoints h = rw h (and-false (side =ᵇ e .connection .side))
 
-  pub opener-not-by-to-address : (to .address ≡ e .answerer .address → ⊥) → fromOpener e side from to ≡ false
+  pub opener-by-side : between e from to ≡ true → fromOpener e side from to ≡ (side =ᵇ e .connection .side)
   unfolding fromOpener
-  opener-not-by-to-address h = simp (ne-eqb (to .address) (e .answerer .address) h, and-false)
+  opener-by-side h = rw h (and-true (side =ᵇ e .connection .side))
 
-  pub opener-not-by-to-port : (to .port ≡ e .answerer .port → ⊥) → fromOpener e side from to ≡ false
-  unfolding fromOpener
-  opener-not-by-to-port h = simp (ne-eqb (to .port) (e .answerer .port) h, and-false)
-
-  pub opener-by-side : from .address ≡ e .opener .address → from .port ≡ e .opener .port → to .address ≡ e .answerer .address → to .port ≡ e .answerer .port → fromOpener e side from to ≡ (side =ᵇ e .connection .side)
-  unfolding fromOpener
-  opener-by-side a b c d =
-      rw (eq-eqb (from .address) (e .opener .address) a, eq-eqb (from .port) (e .opener .port) b, eq-eqb (to .address) (e .answerer .address) c, eq-eqb (to .port) (e .answerer .port) d)
-      (and-true (side =ᵇ e .connection .side))
-
-  pub opener-by-to-port : side ≡ e .connection .side → from .address ≡ e .opener .address → from .port ≡ e .opener .port → to .address ≡ e .answerer .address → fromOpener e side from to ≡ (to .port =ᵇ e .answerer .port)
-  unfolding fromOpener
-  opener-by-to-port a b c d = rw (eq-eqb side (e .connection .side) a, eq-eqb (from .address) (e .opener .address) b, eq-eqb (from .port) (e .opener .port) c, eq-eqb (to .address) (e .answerer .address) d)
-
-  pub answerer-not-by-from-address : (from .address ≡ e .answerer .address → ⊥) → fromAnswerer e side from to ≡ false
+  pub answerer-not-by-endpoints : between e to from ≡ false → fromAnswerer e side from to ≡ false
   unfolding fromAnswerer
-  answerer-not-by-from-address h = simp (ne-eqb (from .address) (e .answerer .address) h, and-false)
+  answerer-not-by-endpoints h = rw h (and-false (side =ᵇ 1 - e .connection .side))
 
-  pub answerer-not-by-from-port : (from .port ≡ e .answerer .port → ⊥) → fromAnswerer e side from to ≡ false
+  pub answerer-by-side : between e to from ≡ true → fromAnswerer e side from to ≡ (side =ᵇ 1 - e .connection .side)
   unfolding fromAnswerer
-  answerer-not-by-from-port h = simp (ne-eqb (from .port) (e .answerer .port) h, and-false)
+  answerer-by-side h = rw h (and-true (side =ᵇ 1 - e .connection .side))
 
-  pub answerer-not-by-to-address : (to .address ≡ e .opener .address → ⊥) → fromAnswerer e side from to ≡ false
-  unfolding fromAnswerer
-  answerer-not-by-to-address h = simp (ne-eqb (to .address) (e .opener .address) h, and-false)
-
-  pub answerer-not-by-to-port : (to .port ≡ e .opener .port → ⊥) → fromAnswerer e side from to ≡ false
-  unfolding fromAnswerer
-  answerer-not-by-to-port h = simp (ne-eqb (to .port) (e .opener .port) h, and-false)
-
-  pub answerer-by-side : from .address ≡ e .answerer .address → from .port ≡ e .answerer .port → to .address ≡ e .opener .address → to .port ≡ e .opener .port → fromAnswerer e side from to ≡ (side =ᵇ 1 - e .connection .side)
-  unfolding fromAnswerer
-  answerer-by-side a b c d =
-      rw (eq-eqb (from .address) (e .answerer .address) a, eq-eqb (from .port) (e .answerer .port) b, eq-eqb (to .address) (e .opener .address) c, eq-eqb (to .port) (e .opener .port) d)
-      (and-true (side =ᵇ 1 - e .connection .side))
-
--- a match is live if its deadline is above the clock
+-- a match is live if it is not expired
 module _ (t : List ℕ) (clock side : ℕ) (from to : Endpoint) (p : ℕ) where
-  pub live-not : entryAt t (placeAt p) .connection .deadline ≤ clock → liveMatchAt t clock side from to p ≡ false
-  unfolding liveMatchAt
-  live-not h = rw (le-ltb _ _ h)
+  pub not-live-by-expired : vacantAt t clock p ≡ true → liveMatchAt t clock side from to p ≡ false
+  unfolding liveMatchAt vacantAt
+  not-live-by-expired h = rw (le-ltb _ _ (leb-true _ _ h))
 
-  pub live-by : clock < entryAt t (placeAt p) .connection .deadline → liveMatchAt t clock side from to p ≡ (fromOpener (entryAt t (placeAt p)) side from to || fromAnswerer (entryAt t (placeAt p)) side from to)
-  unfolding liveMatchAt
-  live-by h = rw (lt-ltb _ _ h)
+  pub live-by-match : vacantAt t clock p ≡ false → liveMatchAt t clock side from to p ≡ (fromOpener (entryAt t (placeAt p)) side from to || fromAnswerer (entryAt t (placeAt p)) side from to)
+  unfolding liveMatchAt vacantAt
+  live-by-match h = rw (lt-ltb _ _ (leb-false _ _ h))

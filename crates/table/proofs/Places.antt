@@ -1,7 +1,7 @@
 -- Laws of a pass over places, for every test: how a loop that is at place i of n goes on, and what its end says of each place.
 use Prim.Native.Nat.{ℕ, zero, suc, _+_, _-_, _≤_, _<_}
 use mathlib.Core.Path.{_≡_, refl, sym, _∙_}
-use mathlib.Core.Bool.{Bool, true, false, _&&_}
+use mathlib.Core.Bool.{Bool, true, false, _&&_, and-assoc}
 use mathlib.Core.Logic.{_⊎_, inl, inr, ⊎-elim}
 use native.Mathlib.Omega.{arith}
 use Rattle.choice.specs.Choice.{if_then_else_}
@@ -127,3 +127,12 @@ unfolding allFrom
 all-by-each test zero i each = refl
 all-by-each test (suc k) i each =
     rw (each i (omega arith) (omega arith)) (all-by-each test k (i + 1) (λ p l h. each p (omega (arith, l)) (omega (arith, h))))
+
+-- all of two runs, one after the other
+pub all-add : (test : ℕ → Bool) (m n i : ℕ) → allFrom test i (m + n) ≡ allFrom test i m && allFrom test (i + m) n
+unfolding allFrom
+all-add test zero n i = let p : zero + n ≡ n = omega arith in let q : i + zero ≡ i = omega arith in rw (p, q)
+all-add test (suc m) n i =
+    let p : suc m + n ≡ suc (m + n) = omega arith in
+    let q : i + suc m ≡ i + 1 + m = omega arith in
+    rw (p, q, all-add test m n (i + 1)) (sym (and-assoc (test i) (allFrom test (i + 1) m) (allFrom test (i + 1 + m) n)))

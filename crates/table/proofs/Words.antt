@@ -2,42 +2,25 @@
 use Prim.Native.Nat.{ℕ, _+_, _*_, _/_, _%_, _^_, _≤_, _<_}
 use mathlib.Core.Path.{_≡_, refl, ap, sym, _∙_}
 use mathlib.Core.List.{List}
-use mathlib.Core.Bool.{Bool, true, false, _&&_, _||_, and-false}
+use mathlib.Core.Bool.{Bool, true, false, _&&_, and-true, and-false, and-assoc, or-false}
 use mathlib.Core.Logic.{_⊎_, inl, inr, ⊎-elim}
 use native.Mathlib.Omega.{arith}
-use native.Mathlib.Nat.{add-zero}
 use lib.ListN.{getD}
 use borrow.Author.Tests.{lt-ltb, le-ltb, ltb-true, leb-true, eqb-true, le-leb, lt-leb, eq-eqb, ne-eqb}
 use Rattle.choice.specs.Choice.{_<ᵇ_, _≤ᵇ_, _=ᵇ_}
 use Rattle.choice.proofs.Choice.{if-=, if-=-not, if-≤, if-≤-not}
 use Rattle.choice.proofs.Tests.{lt-or-ge, &&-true}
-use Rattle.octets.specs.Digits.{number}
 use Rattle.octets.specs.BigEndian.{bigEndian}
+use Rattle.octets.specs.LittleEndian.{littleEndian, FourOctets}
+use Rattle.octets.proofs.LittleEndian.{octets-of-word}
 use Rattle.serial.specs.Serial.{seqMinus}
 use Rattle.connection.specs.Sound.{soundFins, soundEnd, soundUnanswered, soundConnection}
 use Rattle.connection.specs.Stages.{longestLife}
 use Rattle.connection.specs.declared.End.{End}
 use Rattle.entry.specs.Layout.{placeAt, endAt, entryAt, connectionAt}
 use Rattle.table.specs.Table.{zerosAt, freeAt, headerClock, soundAt, soundHeader, soundTable, allFrom}
-use Rattle.table.specs.Words.{littleEndian, FourOctets, soundMarks, soundMarksAt, soundWord, soundNumbers, soundInUse, soundEntry}
-use Rattle.table.proofs.Zeros.{and-assoc, both, zeros-part, zeros-4-number}
-
--- A word's octets
-
-pub octets-of-word : (t : List ℕ) (at w : ℕ) → FourOctets t at → w ≡ littleEndian t at → (w % 256 ≡ getD t at 0) × (w / 256 % 256 ≡ getD t (at + 1) 0) × (w / 256 / 256 % 256 ≡ getD t (at + 2) 0) × (w / 256 / 256 / 256 ≡ getD t (at + 3) 0)
-octets-of-word t at w small is =
-    let p : w / 256 ≡ getD t (at + 1) 0 + getD t (at + 2) 0 * 256 + getD t (at + 3) 0 * 65536 = omega (arith, small) in
-    let q : w / 256 / 256 ≡ getD t (at + 2) 0 + getD t (at + 3) 0 * 256 = omega (arith, small) in
-    (omega (arith, small), omega (arith, small), omega (arith, small), omega (arith, small))
-
-bigEndian-4 : (t : List ℕ) (at : ℕ) → bigEndian 4 t at ≡ ((getD t at 0 * 256 + getD t (at + 1) 0) * 256 + getD t (at + 2) 0) * 256 + getD t (at + 3) 0
-unfolding bigEndian number
-bigEndian-4 t at = rw add-zero (omega arith)
-
--- the octets of a word the other way round
-pub swapped-word : (t : List ℕ) (at w : ℕ) → FourOctets t at → w ≡ littleEndian t at → w % 256 * 16777216 + w / 256 % 256 * 65536 + w / 256 / 256 % 256 * 256 + w / 256 / 256 / 256 ≡ bigEndian 4 t at
-swapped-word t at w small is =
-    let q = octets-of-word t at w small is in rw (q .0, q .1, q .2, q .3, bigEndian-4) (omega arith)
+use Rattle.table.specs.Words.{soundMarks, soundMarksAt, soundWord, soundNumbers, soundInUse, soundEntry}
+use Rattle.table.proofs.Zeros.{both, zeros-part, zeros-4-number}
 
 -- Stage, side, FIN bits and zero
 
@@ -76,6 +59,13 @@ fins-known stage fins e =
     (λ (g : 5 ≤ stage). inr (inr (g, eqb-true _ _ (sym (fins-from-5 stage fins g) ∙ e))))
     (lt-or-ge stage 5))
     (lt-or-ge stage 4)
+
+pub fins-most : (stage fins : ℕ) → soundFins stage fins ≡ true → fins ≤ 3
+fins-most stage fins e =
+    ⊎-elim (λ (x : (stage ≤ 3) × (fins ≡ 0)). omega (arith, x .1))
+    (λ (y : ((stage ≡ 4) × (1 ≤ fins) × (fins ≤ 2)) ⊎ ((5 ≤ stage) × (fins ≡ 3))).
+    ⊎-elim (λ (x : (stage ≡ 4) × (1 ≤ fins) × (fins ≤ 2)). omega (arith, x .2)) (λ (x : (5 ≤ stage) × (fins ≡ 3)). omega (arith, x .1)) y)
+    (fins-known stage fins e)
 
 marks-known : (stage side fins blank : ℕ) → soundMarks stage side fins blank ≡ true → (1 ≤ stage) × (stage ≤ 5) × (side ≤ 1) × (blank ≡ 0) × Fins stage fins
 unfolding soundMarks
@@ -123,14 +113,6 @@ module _ (stage side fins blank k : ℕ) (is : k ≡ stage + side / 2 * 512 + (f
       ⊎-elim (λ (x : (stage ≡ 4) × (1 ≤ fins) × (fins ≤ 2)). omega arith) (λ (x : (5 ≤ stage) × (fins ≡ 3)). omega arith) y) (o .4))
 
 -- The entry
-
-and-true : (t : Bool) → t && true ≡ t
-and-true true = refl
-and-true false = refl
-
-or-false : (t : Bool) → t || false ≡ t
-or-false true = refl
-or-false false = refl
 
 -- the order in which the definition asks, and the scan's
 regroup : (z zs s s' d f l o a u : Bool) → z && (zs && (s && (s' && (d && (f && (l && (o && (a && u)))))))) ≡ (s && (s' && (d && (f && z)))) && ((l && (o && (a && zs))) && u)

@@ -1,19 +1,17 @@
 -- Laws of runs of zeros: they join, and a run is the number that its octets are being 0.
-use Prim.Native.Nat.{ℕ, zero, suc, _+_, _*_}
+use Prim.Native.Nat.{ℕ, zero, suc, _+_, _-_, _*_, _<_}
 use mathlib.Core.Path.{_≡_, refl, sym, _∙_}
 use mathlib.Core.List.{List}
 use mathlib.Core.Bool.{Bool, true, false, _&&_}
 use native.Mathlib.Omega.{arith}
+use native.Mathlib.Nat.{add-zero}
 use lib.ListN.{getD}
 use borrow.Author.Tests.{eq-eqb, ne-eqb, eqb-true}
 use Rattle.choice.specs.Choice.{_=ᵇ_}
 use Rattle.choice.proofs.Tests.{&&-true, false-true}
+use Rattle.octets.specs.LittleEndian.{littleEndian}
 use Rattle.table.specs.Table.{zerosAt}
-use Rattle.table.specs.Words.{littleEndian}
-
-pub and-assoc : (a b c : Bool) → (a && b) && c ≡ a && (b && c)
-and-assoc true b c = refl
-and-assoc false b c = refl
+use Rattle.table.proofs.Places.{each-of-all, all-by-each, all-add}
 
 pub both : (a b : Bool) → a ≡ true → b ≡ true → a && b ≡ true
 both a b p q = rw (p, q)
@@ -23,51 +21,47 @@ pub zero-tests : (r : ℕ) (t : Bool) → (r ≡ 0 → t ≡ true) × (t ≡ tru
 zero-tests r true h = eq-eqb r 0 (h .1 refl)
 zero-tests r false h = ne-eqb r 0 (λ e. false-true (h .0 e))
 
-zeros-add : (t : List ℕ) (m n at : ℕ) → zerosAt t at (m + n) ≡ zerosAt t at m && zerosAt t (at + m) n
+-- the n octets from at on are zeros, one by one
+abbrev pub Zeros : List ℕ → ℕ → ℕ → Type 0
+Zeros t at n = (i : ℕ) → i < n → getD t (at + i) 0 ≡ 0
+
+pub zerosAt-true : (t : List ℕ) (at n : ℕ) → zerosAt t at n ≡ true → Zeros t at n
 unfolding zerosAt
-zeros-add t zero n at = let p : zero + n ≡ n = omega arith in let q : at + zero ≡ at = omega arith in rw (p, q)
-zeros-add t (suc m) n at =
-    let p : suc m + n ≡ suc (m + n) = omega arith in
-    let q : at + suc m ≡ at + 1 + m = omega arith in
-    rw (p, q, zeros-add t m n (at + 1)) (sym (and-assoc (getD t at 0 =ᵇ 0) (zerosAt t (at + 1) m) (zerosAt t (at + 1 + m) n)))
+zerosAt-true t at n e i h = eqb-true _ _ (each-of-all _ n at e (at + i) (omega arith) (omega arith))
+
+pub true-zerosAt : (t : List ℕ) (at n : ℕ) → Zeros t at n → zerosAt t at n ≡ true
+unfolding zerosAt
+true-zerosAt t at n all =
+    all-by-each _ n at (λ p low high.
+    let there : at + (p - at) ≡ p = omega arith in
+    eq-eqb _ _ (rw there at (all (p - at) (omega arith))))
+
+-- Runs side by side
 
 pub zeros-join : (t : List ℕ) (m n at : ℕ) → zerosAt t at m ≡ true → zerosAt t (at + m) n ≡ true → zerosAt t at (m + n) ≡ true
-zeros-join t m n at p q = zeros-add t m n at ∙ both _ _ p q
+unfolding zerosAt
+zeros-join t m n at p q = all-add _ m n at ∙ both _ _ p q
 
 pub zeros-part : (t : List ℕ) (m n at : ℕ) → zerosAt t at (m + n) ≡ true → (zerosAt t at m ≡ true) × (zerosAt t (at + m) n ≡ true)
-zeros-part t m n at h = &&-true _ _ (sym (zeros-add t m n at) ∙ h)
-
-zeros-head : (t : List ℕ) (n at : ℕ) → zerosAt t at (suc n) ≡ true → (getD t at 0 ≡ 0) × (zerosAt t (at + 1) n ≡ true)
 unfolding zerosAt
-zeros-head t n at h = let p = &&-true (getD t at 0 =ᵇ 0) (zerosAt t (at + 1) n) h in (eqb-true _ _ (p .0), p .1)
-
-zeros-cons : (t : List ℕ) (n at : ℕ) → getD t at 0 ≡ 0 → zerosAt t (at + 1) n ≡ true → zerosAt t at (suc n) ≡ true
-unfolding zerosAt
-zeros-cons t n at h q = both _ _ (eq-eqb _ _ h) q
+zeros-part t m n at h = &&-true _ _ (sym (all-add _ m n at) ∙ h)
 
 -- four octets are zeros exactly where their number is 0
 pub zeros-4-number : (t : List ℕ) (at : ℕ) → zerosAt t at 4 ≡ true → littleEndian t at ≡ 0
 zeros-4-number t at h =
-    let a = zeros-head t 3 at h in
-    let b = zeros-head t 2 (at + 1) (a .1) in
-    let c = zeros-head t 1 (at + 1 + 1) (b .1) in
-    let d = zeros-head t 0 (at + 1 + 1 + 1) (c .1) in
-    let p : at + 1 + 1 ≡ at + 2 = omega arith in
-    let q : at + 2 + 1 ≡ at + 3 = omega arith in
-    let c0 : getD t (at + 2) 0 ≡ 0 = rw p at (c .0) in
-    let d0 : getD t (at + 3) 0 ≡ 0 = rw (p, q) at (d .0) in
-    omega (arith, a .0, b .0, c0, d0)
+    let z = zerosAt-true t at 4 h in
+    let first : getD t at 0 ≡ 0 = rw add-zero at (z 0 (omega arith)) in
+    omega (arith, first, z 1 (omega arith), z 2 (omega arith), z 3 (omega arith))
 
 pub number-zeros-4 : (t : List ℕ) (at : ℕ) → littleEndian t at ≡ 0 → zerosAt t at 4 ≡ true
-unfolding zerosAt
-number-zeros-4 t at h =
-    let p : at + 1 + 1 ≡ at + 2 = omega arith in
-    let q : at + 2 + 1 ≡ at + 3 = omega arith in
-    let a : getD t at 0 ≡ 0 = omega arith in
-    let b : getD t (at + 1) 0 ≡ 0 = omega arith in
-    let c : getD t (at + 2) 0 ≡ 0 = omega arith in
-    let d : getD t (at + 3) 0 ≡ 0 = omega arith in
-    zeros-cons t 3 at a (zeros-cons t 2 (at + 1) b (rw p (zeros-cons t 1 (at + 2) c (rw q (zeros-cons t 0 (at + 3) d refl)))))
+number-zeros-4 t at h = true-zerosAt t at 4 each
+  where
+    each : Zeros t at 4
+    each zero l = rw add-zero (omega arith)
+    each (suc zero) l = omega arith
+    each (suc (suc zero)) l = omega arith
+    each (suc (suc (suc zero))) l = omega arith
+    each (suc (suc (suc (suc i)))) l = absurd (omega arith)
 
 pub zeros-8-number : (t : List ℕ) (at : ℕ) → zerosAt t at 8 ≡ true → littleEndian t at + littleEndian t (at + 4) * 4294967296 ≡ 0
 zeros-8-number t at h =

@@ -12,15 +12,14 @@ use Rattle.entry.specs.declared.Entry.{Entry}
 use Rattle.table.specs.declared.Found.{Found}
 use Rattle.table.specs.declared.Found.the-variants.{At, Nothing}
 
--- the n bytes from at on are zeros
-unfoldable pub zerosAt : List ℕ → ℕ → ℕ → Bool
-zerosAt t at zero = true
-zerosAt t at (suc n) = (getD t at 0 =ᵇ 0) && zerosAt t (at + 1) n
-
--- all of the k places from i on pass a test
+-- all of the k numbers from i on pass a test
 unfoldable pub allFrom : (ℕ → Bool) → ℕ → ℕ → Bool
 allFrom test i zero = true
 allFrom test i (suc k) = test i && allFrom test (i + 1) k
+
+-- the n bytes from at on are zeros
+unfoldable pub zerosAt : List ℕ → ℕ → ℕ → Bool
+zerosAt t at n = allFrom (λ i. getD t i 0 =ᵇ 0) at n
 
 -- the first of the k places from i on that passes a test
 unfoldable pub firstFrom : (ℕ → Bool) → ℕ → ℕ → Found
@@ -57,13 +56,17 @@ soundTable t n = soundHeader t && allFrom (soundAt t) 0 n
 abbrev pub sameEndpoint : Endpoint → Endpoint → Bool
 sameEndpoint x y = (x .address =ᵇ y .address) && (x .port =ᵇ y .port)
 
+-- the connection is between two endpoints, the opener's first
+unfoldable pub between : Entry → Endpoint → Endpoint → Bool
+between e x y = sameEndpoint x (e .opener) && sameEndpoint y (e .answerer)
+
 -- a segment from one endpoint to another, on a side, matches as the opener's if all are the opener's way round
 unfoldable pub fromOpener : Entry → ℕ → Endpoint → Endpoint → Bool
-fromOpener e side from to = (side =ᵇ e .connection .side) && (sameEndpoint from (e .opener) && sameEndpoint to (e .answerer))
+fromOpener e side from to = (side =ᵇ e .connection .side) && between e from to
 
 -- as the answerer's if the side is the other one and they are reversed
 unfoldable pub fromAnswerer : Entry → ℕ → Endpoint → Endpoint → Bool
-fromAnswerer e side from to = (side =ᵇ 1 - e .connection .side) && (sameEndpoint from (e .answerer) && sameEndpoint to (e .opener))
+fromAnswerer e side from to = (side =ᵇ 1 - e .connection .side) && between e to from
 
 -- live: deadline above the clock used; and it matches
 unfoldable pub liveMatchAt : List ℕ → ℕ → ℕ → Endpoint → Endpoint → ℕ → Bool
@@ -72,5 +75,5 @@ liveMatchAt t now side from to p =
     && (fromOpener (entryAt t (placeAt p)) side from to || fromAnswerer (entryAt t (placeAt p)) side from to)
 
 -- free or expired: a free entry's deadline is 0
-unfoldable pub expiredAt : List ℕ → ℕ → ℕ → Bool
-expiredAt t now p = entryAt t (placeAt p) .connection .deadline ≤ᵇ now
+unfoldable pub vacantAt : List ℕ → ℕ → ℕ → Bool
+vacantAt t now p = entryAt t (placeAt p) .connection .deadline ≤ᵇ now

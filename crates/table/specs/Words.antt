@@ -1,5 +1,5 @@
 -- Soundness as the scan asks for it: an entry's octets in whole words, few tests an entry. For the proofs only: `soundAt` is the definition.
-use Prim.Native.Nat.{ℕ, _+_, _*_, _/_, _%_, _<_}
+use Prim.Native.Nat.{ℕ, _+_, _/_, _%_}
 use mathlib.Core.Bool.{Bool, _&&_, _||_}
 use mathlib.Core.List.{List}
 use lib.ListN.{getD}
@@ -10,14 +10,6 @@ use Rattle.connection.specs.Stages.{longestLife}
 use Rattle.connection.specs.declared.End.{End}
 use Rattle.entry.specs.Layout.{entryAt}
 use Rattle.table.specs.Table.{zerosAt}
-
--- the four octets from at on as one number, the first the lowest
-abbrev pub littleEndian : List ℕ → ℕ → ℕ
-littleEndian t at = getD t at 0 + getD t (at + 1) 0 * 256 + getD t (at + 2) 0 * 65536 + getD t (at + 3) 0 * 16777216
-
--- and each of them is one
-abbrev pub FourOctets : List ℕ → ℕ → Type 0
-FourOctets t at = (getD t at 0 < 256) × (getD t (at + 1) 0 < 256) × (getD t (at + 2) 0 < 256) × (getD t (at + 3) 0 < 256)
 
 -- an entry's first four octets: stage 1 to 5, side 0 or 1, FIN bits by stage, zero
 unfoldable pub soundMarks : ℕ → ℕ → ℕ → ℕ → Bool

@@ -2,22 +2,23 @@
 // "The table").
 ghost use mathlib.Core.Path.{_≡_};
 ghost use mathlib.Core.Bool.{true};
-ghost use Prim.Native.Nat.{_+_, _-_, _*_, _/_, _%_, _^_, _≤_, _<_};
+ghost use Prim.Native.Nat.{_+_, _-_, _^_, _≤_, _<_};
 ghost use lib.ListN.{length};
-ghost use Rattle.octets.specs.BigEndian.{bigEndian, octetsOf};
+ghost use Rattle.octets.specs.BigEndian.{octetsOf};
 ghost use Rattle.octets.specs.Overwrite.{overwrite};
 ghost use Rattle.connection.specs.Sound.{soundEnd, soundUnanswered};
-ghost use Rattle.entry.specs.Layout.{placeAt, endAt, entryAt};
-ghost use Rattle.table.specs.Table.{headerClock, zerosAt, soundHeader, soundTable, liveMatchAt, expiredAt, firstFrom, fromOpener, fromAnswerer};
-ghost use Rattle.table.specs.Words.{littleEndian, FourOctets, soundWord, soundNumbers, soundEntry};
+ghost use Rattle.entry.specs.Layout.{placeAt, entryAt};
+ghost use Rattle.table.specs.Table.{headerClock, zerosAt, soundHeader, soundTable, liveMatchAt, vacantAt, firstFrom, sameEndpoint, between, fromOpener, fromAnswerer};
+ghost use Rattle.table.specs.Words.{soundWord, soundNumbers, soundEntry};
 use connection::End;
 use entry::Endpoint;
 use entry::Entry;
+use entry::load_end;
+use octets::little32;
 use octets::read16;
+use octets::read32;
 use octets::read64;
 use octets::write64;
-use serial::OctetCount;
-use serial::SeqNum;
 
 // What a search over places gives.
 pub enum Found {
@@ -25,45 +26,7 @@ pub enum Found {
     Nothing,
 }
 
-// Words. A sum with the first octet lowest is one load of the machine, and its octets the other way round one swap.
-
-// An octet as a wider number; a call, so that a read asks for its index alone.
-fn wide(x: u8) -> u32
-    ensures { λ r. ⌜ (r ≡ x) × (r < 256) ⌝ }
-{
-    x as u32
-}
-
-fn little32(table: &[u8], at: usize) -> u32
-    requires { ⌜ at + 4 ≤ length (now table) ⌝ }
-    ensures { λ r. ⌜ r ≡ littleEndian (now (table .entry)) at ⌝ }
-    ensures octets { λ r. ⌜ FourOctets (now (table .entry)) at ⌝ }
-{
-    wide(table[at])
-        + wide(table[at + 1]) * 256
-        + wide(table[at + 2]) * 65536
-        + wide(table[at + 3]) * 16777216
-}
-
-fn swapped(w: u32) -> u32
-    ensures { λ r. ⌜ r ≡ w % 256 * 16777216 + w / 256 % 256 * 65536 + w / 256 / 256 % 256 * 256 + w / 256 / 256 / 256 ⌝ }
-{
-    w % 256 * 16777216 + w / 256 % 256 * 65536 + w / 256 / 256 % 256 * 256 + w / 256 / 256 / 256
-}
-
-fn big32(table: &[u8], at: usize) -> u32
-    requires { ⌜ at + 4 ≤ length (now table) ⌝ }
-    ensures { λ r. ⌜ r ≡ bigEndian 4 (now (table .entry)) at ⌝ }
-{
-    swapped(little32(table, at))
-}
-
-fn big64(table: &[u8], at: usize) -> u64
-    requires { ⌜ at + 8 ≤ length (now table) ⌝ }
-    ensures { λ r. ⌜ r ≡ bigEndian 8 (now (table .entry)) at ⌝ }
-{
-    big32(table, at) as u64 * 4294967296 + big32(table, at + 4) as u64
-}
+// Octets in whole words
 
 // Several tests in one: above both numbers, and zero or under 65,536 where both are.
 fn either(a: u64, b: u64) -> u64
@@ -126,6 +89,15 @@ fn other_side(side: u8) -> u8
     0
 }
 
+fn same_endpoint(x: Endpoint, y: Endpoint) -> bool
+    ensures { λ r. ⌜ r ≡ sameEndpoint x y ⌝ }
+{
+    if x.address != y.address {
+        return false;
+    }
+    x.port == y.port
+}
+
 // Which end sent a segment that matches: the opener, or else the answerer.
 pub fn from_opener(entry: Entry, side: u8, from: Endpoint, to: Endpoint) -> bool
     ensures { λ r. ⌜ r ≡ fromOpener entry side from to ⌝ }
@@ -133,16 +105,29 @@ pub fn from_opener(entry: Entry, side: u8, from: Endpoint, to: Endpoint) -> bool
     if side != entry.connection.side {
         return false;
     }
-    if from.address != entry.opener.address {
+    let opener = entry.opener;
+    let answerer = entry.answerer;
+    if !same_endpoint(from, opener) {
         return false;
     }
-    if from.port != entry.opener.port {
+    same_endpoint(to, answerer)
+}
+
+// The connection at an offset is between two endpoints, the opener's first. The first word differs nearly always.
+fn is_between(table: &[u8], at: usize, x: Endpoint, y: Endpoint) -> bool
+    requires { ⌜ at + 64 ≤ length (now table) ⌝ }
+    ensures { λ r. ⌜ r ≡ between (entryAt (now (table .entry)) at) x y ⌝ }
+{
+    if x.address != read32(table, at + 4) {
         return false;
     }
-    if to.address != entry.answerer.address {
+    if y.address != read32(table, at + 8) {
         return false;
     }
-    to.port == entry.answerer.port
+    if x.port != read16(table, at + 12) {
+        return false;
+    }
+    y.port == read16(table, at + 14)
 }
 
 // The opener's way round, by the entry at an offset.
@@ -150,16 +135,7 @@ fn is_from_opener(table: &[u8], at: usize, side: u8, from: Endpoint, to: Endpoin
     requires { ⌜ at + 64 ≤ length (now table) ⌝ }
     ensures { λ r. ⌜ r ≡ fromOpener (entryAt (now (table .entry)) at) side from to ⌝ }
 {
-    if from.address != big32(table, at + 4) {
-        return false;
-    }
-    if to.address != big32(table, at + 8) {
-        return false;
-    }
-    if from.port != read16(table, at + 12) {
-        return false;
-    }
-    if to.port != read16(table, at + 14) {
+    if !is_between(table, at, from, to) {
         return false;
     }
     side == table[at + 1]
@@ -170,19 +146,19 @@ fn is_from_answerer(table: &[u8], at: usize, side: u8, from: Endpoint, to: Endpo
     requires { ⌜ at + 64 ≤ length (now table) ⌝ }
     ensures { λ r. ⌜ r ≡ fromAnswerer (entryAt (now (table .entry)) at) side from to ⌝ }
 {
-    if to.address != big32(table, at + 4) {
-        return false;
-    }
-    if from.address != big32(table, at + 8) {
-        return false;
-    }
-    if to.port != read16(table, at + 12) {
-        return false;
-    }
-    if from.port != read16(table, at + 14) {
+    if !is_between(table, at, to, from) {
         return false;
     }
     side == other_side(table[at + 1])
+}
+
+// Free or expired: a free entry's deadline is 0.
+fn is_vacant(table: &[u8], place: usize, clock: u64) -> bool
+    requires { ⌜ placeAt (place + 1) ≤ length (now table) ⌝ }
+    ensures { λ r. ⌜ r ≡ vacantAt (now (table .entry)) clock place ⌝ }
+{
+    let at = 64 + 64 * place;
+    read64(table, at + 16) <= clock
 }
 
 // Live and a match; the deadline is read first.
@@ -197,23 +173,14 @@ fn is_live_match(
     requires { ⌜ placeAt (place + 1) ≤ length (now table) ⌝ }
     ensures { λ r. ⌜ r ≡ liveMatchAt (now (table .entry)) clock side from to place ⌝ }
 {
-    let at = 64 + 64 * place;
-    if big64(table, at + 16) <= clock {
+    if is_vacant(table, place, clock) {
         return false;
     }
+    let at = 64 + 64 * place;
     if is_from_opener(table, at, side, from, to) {
         return true;
     }
     is_from_answerer(table, at, side, from, to)
-}
-
-// Free or expired: a free entry's deadline is 0.
-fn is_expired(table: &[u8], place: usize, clock: u64) -> bool
-    requires { ⌜ placeAt (place + 1) ≤ length (now table) ⌝ }
-    ensures { λ r. ⌜ r ≡ expiredAt (now (table .entry)) clock place ⌝ }
-{
-    let at = 64 + 64 * place;
-    big64(table, at + 16) <= clock
 }
 
 // The search takes the first live match from place 0 up.
@@ -244,14 +211,14 @@ pub fn find(
 // An opening takes the first place that is free or expired.
 pub fn vacant(table: &[u8], places: usize, clock: u64) -> Found
     requires { ⌜ placeAt places ≤ length (now table) ⌝ }
-    ensures { λ r. ⌜ r ≡ firstFrom (expiredAt (now (table .entry)) clock) 0 places ⌝ }
+    ensures { λ r. ⌜ r ≡ firstFrom (vacantAt (now (table .entry)) clock) 0 places ⌝ }
 {
     let mut next = 0;
     let found = loop {
         if places <= next {
             break Found::Nothing;
         }
-        if is_expired(table, next, clock) {
+        if is_vacant(table, next, clock) {
             break Found::At(next);
         }
         next += 1;
@@ -274,18 +241,6 @@ fn sound_word(w: u32) -> bool
         131076 => true,
         196613 => true,
         _ => false,
-    }
-}
-
-// One end's record.
-fn end_at(table: &[u8], at: usize) -> End
-    requires { ⌜ at + 12 ≤ length (now table) ⌝ }
-    ensures { λ r. ⌜ r ≡ endAt (now (table .entry)) at ⌝ }
-{
-    End {
-        end: SeqNum(big32(table, at)),
-        edge: SeqNum(big32(table, at + 4)),
-        win: OctetCount(big32(table, at + 8)),
     }
 }
 
@@ -317,7 +272,7 @@ fn sound_numbers(table: &[u8], clock: u64, at: usize, opener: End, answerer: End
     ensures { λ r. ⌜ r ≡ soundNumbers (now (table .entry)) clock at opener answerer ⌝ }
 {
     let odd = either(odd_end(opener), odd_end(answerer)) / 65536;
-    let beyond = late(clock + 432_000_000, big64(table, at + 16));
+    let beyond = late(clock + 432_000_000, read64(table, at + 16));
     either(either(any16(table, at + 48), beyond), odd) == 0
 }
 
@@ -349,8 +304,8 @@ fn sound_entry(table: &[u8], clock: u64, at: usize) -> bool
     if !sound_word(word) {
         return false;
     }
-    let opener = end_at(table, at + 24);
-    let answerer = end_at(table, at + 36);
+    let opener = load_end(table, at + 24);
+    let answerer = load_end(table, at + 36);
     if !sound_numbers(table, clock, at, opener, answerer) {
         return false;
     }

@@ -1,8 +1,8 @@
 use mathlib.Core.Path.{refl}
 use native.Mathlib.Omega.{arith}
+use Rattle.octets.proofs.Overwrite.{overwrite-both}
 use Rattle.entry.specs.Layout.{entryBytes}
 use Rattle.entry.proofs.Sizes.{length-marksBytes, length-endpointsBytes, length-numbersBytes}
-use Rattle.entry.proofs.Writes.{overwrite-both}
 use borrow.Author.Needs.{needs}
 use Rattle.entry.proofs.store.Statement.{statement}
 use Rattle.entry.proofs.store.Tie as tie

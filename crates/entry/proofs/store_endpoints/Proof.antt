@@ -1,8 +1,8 @@
 use mathlib.Core.Path.{refl}
 use native.Mathlib.Omega.{arith}
+use Rattle.octets.proofs.Overwrite.{overwrite-both}
 use Rattle.octets.proofs.BigEndian.{length-octetsOf}
 use Rattle.entry.specs.Layout.{endpointsBytes}
-use Rattle.entry.proofs.Writes.{overwrite-both}
 use borrow.Author.Needs.{needs}
 use Rattle.entry.proofs.store_endpoints.Statement.{statement}
 use Rattle.entry.proofs.store_endpoints.Tie as tie

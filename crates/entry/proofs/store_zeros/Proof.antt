@@ -1,7 +1,7 @@
 use mathlib.Core.Path.{refl}
 use native.Mathlib.Omega.{arith}
-use Rattle.octets.proofs.BigEndian.{length-octetsOf}
-use Rattle.entry.proofs.Writes.{overwrite-both, octetsOf-0-0}
+use Rattle.octets.proofs.Overwrite.{overwrite-both}
+use Rattle.octets.proofs.BigEndian.{length-octetsOf, octetsOf-0-0}
 use borrow.Author.Needs.{needs}
 use Rattle.entry.proofs.store_zeros.Statement.{statement}
 use Rattle.entry.proofs.store_zeros.Tie as tie

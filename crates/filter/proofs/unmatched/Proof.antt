@@ -1,6 +1,6 @@
 use mathlib.Core.Path.{sym, ap, _∙_}
 use Rattle.entry.specs.declared.Entry.{Entry}
-use Rattle.table.specs.Table.{firstFrom, expiredAt}
+use Rattle.table.specs.Table.{firstFrom, vacantAt}
 use Rattle.filter.specs.Outcome.{Passed}
 use Rattle.filter.specs.Decided.{decided}
 use Rattle.filter.proofs.Rows.{unmatched-not-from-side-0, unmatched-not-syn, unmatched-syn}
@@ -43,7 +43,7 @@ returns-3 c =
     let k = c .before .before .before .before .before in
     let z = k .before .before .before .before .before in
     let a = z .args in
-    let h = ap (firstFrom (expiredAt (a .table .now) (a .clock)) 0) (sym (z .pre .0)) ∙ sym (k .vacant .ensures) ∙ c .before .before .before .found .given .1 in
+    let h = ap (firstFrom (vacantAt (a .table .now) (a .clock)) 0) (sym (z .pre .0)) ∙ sym (k .vacant .ensures) ∙ c .before .before .before .found .given .1 in
     c .passed .ensures
     ∙ ap (λ (x : Entry). decided (Passed (c .before .before .before .found .given .0 .0) (a .clock) x)) (c .before .opening .ensures)
     ∙ ap decided (sym (unmatched-syn (a .table .now) (a .clock) (a .side) (a .flow) (a .segment) (k .before .before .before .if1 .left) (k .before .if2 .left) _ h))
@@ -53,7 +53,7 @@ returns-4 c =
     let k = c .before .before .before in
     let z = k .before .before .before .before .before in
     let a = z .args in
-    let h = ap (firstFrom (expiredAt (a .table .now) (a .clock)) 0) (sym (z .pre .0)) ∙ sym (k .vacant .ensures) ∙ c .before .enum-told .given .1 in
+    let h = ap (firstFrom (vacantAt (a .table .now) (a .clock)) 0) (sym (z .pre .0)) ∙ sym (k .vacant .ensures) ∙ c .before .enum-told .given .1 in
     c .blocked3 .ensures
     ∙ ap decided (sym (unmatched-syn (a .table .now) (a .clock) (a .side) (a .flow) (a .segment) (k .before .before .before .if1 .left) (k .before .if2 .left) _ h))
 

@@ -1,42 +1,20 @@
+use mathlib.Core.Path.{_∙_}
 use native.Mathlib.Omega.{arith}
-use Rattle.octets.proofs.BigEndian.{bigEndian-add}
+use Rattle.octets.proofs.LittleEndian.{swapped-word}
 use borrow.Author.Needs.{needs}
 use Rattle.octets.proofs.read32.Statement.{statement}
 use Rattle.octets.proofs.read32.Tie as tie
 
-read16-requires : tie.Need-read16-requires
-read16-requires c κs = search needs
+little32-requires : tie.Need-little32-requires
+little32-requires c κs = search needs
 
-cast-high : tie.Need-cast-high
-cast-high c = search needs
-
-add-read16 : tie.Need-add-read16
-add-read16 c = search needs
-
-read16-requires-2 : tie.Need-read16-requires-2
-read16-requires-2 c κs = search needs
-
-cast-low : tie.Need-cast-low
-cast-low c = search needs
-
-mul-result : tie.Need-mul-result
-mul-result c = search needs
-
-add-result : tie.Need-add-result
-add-result c = search needs
+swapped-requires : tie.Need-swapped-requires
+swapped-requires c κs = search needs
 
 returns : tie.Need-returns
-returns c = rw (bigEndian-add 2 2) (omega arith)
+returns c =
+    let a = c .before .before .before .args in
+    c .swapped .ensures ∙ swapped-word (a .s .now) (a .at) (c .before .little32 .result) (omega arith, omega arith, omega arith, omega arith) (omega arith)
 
 pub read32-spec : {M : Type 1} → statement M
-read32-spec =
-    tie.close
-    (tie.spec
-    read16-requires
-    cast-high
-    add-read16
-    read16-requires-2
-    cast-low
-    mul-result
-    add-result
-    returns)
+read32-spec = tie.close (tie.spec little32-requires swapped-requires returns)

@@ -7,8 +7,11 @@ use Rattle.octets.proofs.read64.Tie as tie
 read32-requires : tie.Need-read32-requires
 read32-requires c κs = search needs
 
-cast-high : tie.Need-cast-high
-cast-high c = search needs
+cast-result : tie.Need-cast-result
+cast-result c = search needs
+
+mul-result : tie.Need-mul-result
+mul-result c = search needs
 
 add-read32 : tie.Need-add-read32
 add-read32 c = search needs
@@ -16,11 +19,8 @@ add-read32 c = search needs
 read32-requires-2 : tie.Need-read32-requires-2
 read32-requires-2 c κs = search needs
 
-cast-low : tie.Need-cast-low
-cast-low c = search needs
-
-mul-result : tie.Need-mul-result
-mul-result c = search needs
+cast-result-2 : tie.Need-cast-result-2
+cast-result-2 c = search needs
 
 add-result : tie.Need-add-result
 add-result c = search needs
@@ -33,10 +33,10 @@ read64-spec =
     tie.close
     (tie.spec
     read32-requires
-    cast-high
+    cast-result
+    mul-result
     add-read32
     read32-requires-2
-    cast-low
-    mul-result
+    cast-result-2
     add-result
     returns)

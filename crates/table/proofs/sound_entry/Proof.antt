@@ -28,17 +28,17 @@ returns-2 c =
     let word = e .before .little32 .result in
     sym (entry-not-by-word (a .table .now) (a .clock) (a .at) word (omega arith, omega arith, omega arith, omega arith) (omega arith) (e .if1 .left) (sym (c .before .sound-word .ensures) ∙ not-true _ (c .if2 .taken)))
 
-add-end-at : tie.Need-add-end-at
-add-end-at c = search needs
+add-load-end : tie.Need-add-load-end
+add-load-end c = search needs
 
-end-at-requires : tie.Need-end-at-requires
-end-at-requires c κs = search needs
+load-end-requires : tie.Need-load-end-requires
+load-end-requires c κs = search needs
 
-add-end-at-2 : tie.Need-add-end-at-2
-add-end-at-2 c = search needs
+add-load-end-2 : tie.Need-add-load-end-2
+add-load-end-2 c = search needs
 
-end-at-requires-2 : tie.Need-end-at-requires-2
-end-at-requires-2 c κs = search needs
+load-end-requires-2 : tie.Need-load-end-requires-2
+load-end-requires-2 c κs = search needs
 
 sound-numbers-requires : tie.Need-sound-numbers-requires
 sound-numbers-requires c κs = search needs
@@ -50,7 +50,7 @@ returns-3 c =
     let a = e .before .before .before .args in
     let word = e .before .little32 .result in
     sym (entry-not-by-numbers (a .table .now) (a .clock) (a .at) word (omega arith, omega arith, omega arith, omega arith) (omega arith) (e .if1 .left)
-    _ _ (n .before .before .end-at .ensures) (n .before .end-at2 .ensures)
+    _ _ (n .before .before .load-end .ensures) (n .before .load-end2 .ensures)
     (sym (n .sound-numbers .ensures) ∙ not-true _ (c .if3 .taken)))
 
 sound-unanswered-requires : tie.Need-sound-unanswered-requires
@@ -66,7 +66,7 @@ returns-4 c =
     let word = e .before .little32 .result in
     c .sound-unanswered .ensures
     ∙ sym (entry-unanswered (a .table .now) (a .clock) (a .at) word (omega arith, omega arith, omega arith, omega arith) (omega arith) (e .if1 .left)
-    _ _ (n .before .before .end-at .ensures) (n .before .end-at2 .ensures)
+    _ _ (n .before .before .load-end .ensures) (n .before .load-end2 .ensures)
     (sym (w .before .sound-word .ensures) ∙ not-false _ (w .if2 .left))
     (sym (n .sound-numbers .ensures) ∙ not-false _ (d .if3 .left)) (c .before .if4 .taken))
 
@@ -79,7 +79,7 @@ returns-5 c =
     let a = e .before .before .before .args in
     let word = e .before .little32 .result in
     sym (entry-answered (a .table .now) (a .clock) (a .at) word (omega arith, omega arith, omega arith, omega arith) (omega arith) (e .if1 .left)
-    _ _ (n .before .before .end-at .ensures) (n .before .end-at2 .ensures)
+    _ _ (n .before .before .load-end .ensures) (n .before .load-end2 .ensures)
     (sym (w .before .sound-word .ensures) ∙ not-false _ (w .if2 .left))
     (sym (n .sound-numbers .ensures) ∙ not-false _ (d .if3 .left)) (c .if4 .left))
 
@@ -92,10 +92,10 @@ sound-entry-spec =
     returns
     sound-word-requires
     returns-2
-    add-end-at
-    end-at-requires
-    add-end-at-2
-    end-at-requires-2
+    add-load-end
+    load-end-requires
+    add-load-end-2
+    load-end-requires-2
     sound-numbers-requires
     returns-3
     sound-unanswered-requires

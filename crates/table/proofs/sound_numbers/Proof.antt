@@ -17,11 +17,11 @@ either-requires c κs = search needs
 add-late : tie.Need-add-late
 add-late c = search needs
 
-add-big64 : tie.Need-add-big64
-add-big64 c = search needs
+add-read64 : tie.Need-add-read64
+add-read64 c = search needs
 
-big64-requires : tie.Need-big64-requires
-big64-requires c κs = search needs
+read64-requires : tie.Need-read64-requires
+read64-requires c κs = search needs
 
 late-requires : tie.Need-late-requires
 late-requires c κs = search needs
@@ -46,7 +46,7 @@ returns c =
     let o2 = c .before .either2 .ensures in
     let z = c .before .before .any16 .ensures in
     let l = c .before .before .before .late .ensures in
-    let d = c .before .before .before .before .big64 .ensures in
+    let d = c .before .before .before .before .read64 .ensures in
     let o = c .before .before .before .before .before .either .ensures in
     let y = c .before .before .before .before .before .before .odd-end2 .ensures in
     let x = c .before .before .before .before .before .before .before .odd-end .ensures in
@@ -66,8 +66,8 @@ sound-numbers-spec =
     odd-end-requires-2
     either-requires
     add-late
-    add-big64
-    big64-requires
+    add-read64
+    read64-requires
     late-requires
     add-any16
     any16-requires

@@ -1,0 +1,85 @@
+-- A pass leaves sound bytes sound.
+use Prim.Native.Nat.{ℕ, _^_, _≤_, _<_}
+use mathlib.Core.Path.{_≡_, ap, _∙_}
+use mathlib.Core.Logic.{_⊎_, inl, inr}
+use mathlib.Core.Bool.{true, false}
+use mathlib.Core.List.{List}
+use native.Mathlib.Omega.{arith}
+use borrow.Author.Tests.{eqb-true, eqb-false}
+use Rattle.choice.specs.Choice.{_=ᵇ_}
+use Rattle.choice.proofs.Tests.{true-or-false}
+use Rattle.octets.specs.Octets.{Octets}
+use Rattle.octets.specs.BigEndian.{octetsOf}
+use Rattle.octets.specs.Overwrite.{overwrite}
+use Rattle.octets.proofs.Agree.{Agree}
+use Rattle.octets.proofs.Octets.{octets-octetsOf, octets-overwrite}
+use Rattle.connection.specs.Sound.{soundConnection}
+use Rattle.entry.specs.Layout.{entrySize, placeAt, entryBytes, entryAt}
+use Rattle.entry.specs.Typed.{Typed}
+use Rattle.entry.specs.declared.Entry.{Entry}
+use Rattle.entry.proofs.Agree.{entryAt-agree, zeroBytes-agree}
+use Rattle.entry.proofs.Octets.{octets-entryBytes, zeroBytes-entryBytes}
+use Rattle.table.specs.Table.{headerClock}
+use Rattle.table.proofs.Facts.{SoundPlace, SoundFacts, table-facts, facts-table}
+use Rattle.filter.specs.Call.{placesIn, freeEntry, tableAfter}
+use Rattle.filter.specs.Outcome.{Passed}
+use Rattle.filter.proofs.Free.{free-zeros}
+use Rattle.honest.proofs.SoundKept.{later-sound}
+use Rattle.demands.specs.Bytes.{SoundBytes}
+use Rattle.demands.proofs.Frame.{length-after, placesIn-after, clock-after, header-after, place-same, place-other, entry-same}
+
+-- a place with the same bytes stays sound, since the clock only rises
+place-agree : (clock now : ℕ) (l : List ℕ) (at : ℕ) (m : List ℕ) (there : ℕ) → Agree l at m there entrySize → clock ≤ now → SoundPlace clock m there → SoundPlace now l at
+place-agree clock now l at m there same later (inl zeros) = inl (λ i h. same i h ∙ zeros i h)
+place-agree clock now l at m there same later (inr f) =
+    inr (record {
+      zero-bytes = zeroBytes-agree l at m there same (f .zero-bytes);
+      connection = rw (entryAt-agree l at m there same) (later-sound clock now _ later (f .connection));
+    })
+
+-- what stands where an entry was written
+written-sound : (now : ℕ) (e : Entry) (t : List ℕ) (at : ℕ) → Agree t at (entryBytes e) 0 entrySize → entryAt t at ≡ e → (e ≡ freeEntry) ⊎ (soundConnection now (e .connection) ≡ true) → SoundPlace now t at
+written-sound now e t at same back (inl free) = inl (λ i h. (rw free at same) i h ∙ free-zeros i h)
+written-sound now e t at same back (inr sound) =
+    inr (record {
+      zero-bytes = zeroBytes-agree t at (entryBytes e) 0 same (zeroBytes-entryBytes e);
+      connection = ap (λ (x : Entry). soundConnection now (x .connection)) back ∙ sound;
+    })
+
+module _ (t : List ℕ) (p now : ℕ) (e : Entry) (s : SoundBytes t) (inside : p < placesIn t) (small : now < 2 ^ 48) (later : headerClock t ≤ now) (typed : Typed e) (new : (e ≡ freeEntry) ⊎ (soundConnection now (e .connection) ≡ true)) where
+  abbrev after : List ℕ
+  after = tableAfter t (Passed p now e)
+
+  clocked-octets : Octets (overwrite t 0 (octetsOf 8 now))
+  clocked-octets = octets-overwrite t 0 (octetsOf 8 now) (s .octets) (octets-octetsOf 8 now)
+
+  octets-after : Octets after
+  octets-after =
+      octets-overwrite (overwrite t 0 (octetsOf 8 now)) (placeAt p) (entryBytes e) clocked-octets (octets-entryBytes e typed)
+
+  place-after : (q : ℕ) → q < placesIn t → SoundPlace now after (placeAt q)
+  place-after q h = by (true-or-false (q =ᵇ p))
+    where
+      by : (q =ᵇ p ≡ true) ⊎ (q =ᵇ p ≡ false) → SoundPlace now after (placeAt q)
+      by (inl same) =
+          rw (eqb-true q p same)
+          (written-sound now e after (placeAt p) (place-same t p now e inside) (entry-same t p now e inside typed) new)
+      by (inr differs) =
+          place-agree (headerClock t) now after (placeAt q) t (placeAt q) (place-other t p now e inside q (eqb-false q p differs)) later
+          (table-facts t (placesIn t) (s .sound) .places q h)
+
+  facts-after : SoundFacts after (placesIn after)
+  facts-after =
+      let clock : headerClock after ≡ now = clock-after t p now e inside (omega arith) in
+      record {
+        clock = rw clock small;
+        header = λ i h. header-after t p now e inside i h ∙ table-facts t (placesIn t) (s .sound) .header i h;
+        places = λ q h. rw clock (place-after q (rw (placesIn-after t p now e inside) at h));
+      }
+
+  bytes-after : SoundBytes after
+  bytes-after = record { octets = octets-after; legal = rw (length-after t p now e inside) (s .legal); sound = facts-table after (placesIn after) facts-after }
+
+-- a pass that writes a free entry or a sound one leaves the bytes sound
+pub sound-after : (t : List ℕ) (p now : ℕ) (e : Entry) → SoundBytes t → p < placesIn t → now < 2 ^ 48 → headerClock t ≤ now → Typed e → ((e ≡ freeEntry) ⊎ (soundConnection now (e .connection) ≡ true)) → SoundBytes (tableAfter t (Passed p now e))
+sound-after t p now e s inside small later typed new = bytes-after t p now e s inside small later typed new

@@ -1,0 +1,12 @@
+-- Four octets as one number, the first the lowest: what one load of the machine reads.
+use Prim.Native.Nat.{ℕ, _+_, _*_, _<_}
+use mathlib.Core.List.{List}
+use lib.ListN.{getD}
+
+-- the number in the four octets of l from at on
+abbrev pub littleEndian : List ℕ → ℕ → ℕ
+littleEndian l at = getD l at 0 + getD l (at + 1) 0 * 256 + getD l (at + 2) 0 * 65536 + getD l (at + 3) 0 * 16777216
+
+-- and each of them is an octet
+abbrev pub FourOctets : List ℕ → ℕ → Type 0
+FourOctets l at = (getD l at 0 < 256) × (getD l (at + 1) 0 < 256) × (getD l (at + 2) 0 < 256) × (getD l (at + 3) 0 < 256)

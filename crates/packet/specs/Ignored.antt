@@ -1,0 +1,11 @@
+-- "Bytes past total length are ignored."
+use Prim.Native.Nat.{ℕ, _≤_}
+use mathlib.Core.Path.{_≡_}
+use mathlib.Core.List.{List, _++_}
+use lib.ListN.{length}
+use Rattle.packet.specs.Header.{totalLength}
+use Rattle.packet.specs.Read.{readPacket}
+
+-- a packet of at least 20 bytes and its total length reads the same whatever bytes follow it
+abbrev pub PastTotalIgnored : Type 0
+PastTotalIgnored = (p past : List ℕ) → 20 ≤ length p → totalLength p ≤ length p → readPacket (p ++ past) ≡ readPacket p
