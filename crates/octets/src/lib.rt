@@ -3,7 +3,7 @@ ghost use mathlib.Core.Path.{_≡_};
 ghost use Prim.Native.Nat.{_+_, _*_, _/_, _%_, _≤_, _<_};
 ghost use lib.ListN.{length};
 ghost use Rattle.octets.specs.BigEndian.{bigEndian, octetsOf};
-ghost use Rattle.octets.specs.LittleEndian.{littleEndian, FourOctets};
+ghost use Rattle.octets.specs.LittleEndian.{littleEndian, FourOctets, littleOctets};
 ghost use Rattle.octets.specs.Overwrite.{overwrite};
 
 // A byte as a wider number; a call, so that a read asks for its index alone.
@@ -50,20 +50,32 @@ pub fn read64(s: &[u8], at: usize) -> u64
     read32(s, at) as u64 * 4294967296 + read32(s, at + 4) as u64
 }
 
+// Turned first, so that the two octets are one store.
 pub fn write16(s: &mut [u8], at: usize, v: u16)
     requires { ⌜ at + 2 ≤ length (now s) ⌝ }
     ensures { λ r. ⌜ now (s .exit) ≡ overwrite (now (s .entry)) at (octetsOf 2 v) ⌝ }
 {
-    s[at] = (v / 256) as u8;
-    s[at + 1] = (v % 256) as u8;
+    let turned = v % 256 * 256 + v / 256;
+    s[at] = (turned % 256) as u8;
+    s[at + 1] = (turned / 256) as u8;
+}
+
+// Four octets of a word, its lowest first: written so, they are one store of the machine.
+fn put_little32(s: &mut [u8], at: usize, w: u32)
+    requires { ⌜ at + 4 ≤ length (now s) ⌝ }
+    ensures { λ r. ⌜ now (s .exit) ≡ overwrite (now (s .entry)) at (littleOctets w) ⌝ }
+{
+    s[at] = (w % 256) as u8;
+    s[at + 1] = (w / 256 % 256) as u8;
+    s[at + 2] = (w / 256 / 256 % 256) as u8;
+    s[at + 3] = (w / 256 / 256 / 256) as u8;
 }
 
 pub fn write32(s: &mut [u8], at: usize, v: u32)
     requires { ⌜ at + 4 ≤ length (now s) ⌝ }
     ensures { λ r. ⌜ now (s .exit) ≡ overwrite (now (s .entry)) at (octetsOf 4 v) ⌝ }
 {
-    write16(s, at, (v / 65536) as u16);
-    write16(s, at + 2, (v % 65536) as u16);
+    put_little32(s, at, swapped(v));
 }
 
 pub fn write64(s: &mut [u8], at: usize, v: u64)

@@ -1,11 +1,20 @@
-use Prim.Native.Nat.{_/_, _%_}
+use Prim.Native.Nat.{ℕ, _+_, _*_, _/_, _%_}
+use mathlib.Core.Path.{_≡_, ap, _∙_}
+use mathlib.Core.List.{List}
 use native.Mathlib.Omega.{arith}
 use lib.ListN.{length-set}
+use Rattle.octets.specs.Overwrite.{overwrite}
 use Rattle.octets.proofs.BigEndian.{octetsOf-2}
 use Rattle.octets.proofs.Overwrite.{set-set≡overwrite}
 use borrow.Author.Needs.{needs}
 use Rattle.octets.proofs.write16.Statement.{statement}
 use Rattle.octets.proofs.write16.Tie as tie
+
+mul-turned : tie.Need-mul-turned
+mul-turned c = search needs
+
+add-turned : tie.Need-add-turned
+add-turned c = search needs
 
 cast-s : tie.Need-cast-s
 cast-s c = search needs
@@ -28,8 +37,22 @@ same-length c = search needs
 returns : tie.Need-returns
 returns c =
     let a = c .args in
-    rw (octetsOf-2 (a .v) (omega arith)) (set-set≡overwrite (a .s .now) (a .at) (a .v / 256) (a .v % 256) (c .pre))
+    let turned = a .v % 256 * 256 + a .v / 256 in
+    let first : turned % 256 ≡ a .v / 256 = omega arith in
+    let second : turned / 256 ≡ a .v % 256 = omega arith in
+    set-set≡overwrite (a .s .now) (a .at) (turned % 256) (turned / 256) (c .pre)
+    ∙ ap (λ (l : List ℕ). overwrite (a .s .now) (a .at) l) (rw (octetsOf-2 (a .v) (omega arith), first, second))
 
 pub write16-spec : {M : Type 1} → statement M
 write16-spec =
-    tie.close (tie.spec cast-s slice-write-s cast-s-2 add-s slice-write-s-2 same-length returns)
+    tie.close
+    (tie.spec
+    mul-turned
+    add-turned
+    cast-s
+    slice-write-s
+    cast-s-2
+    add-s
+    slice-write-s-2
+    same-length
+    returns)

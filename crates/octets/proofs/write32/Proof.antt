@@ -1,41 +1,28 @@
+-- The octets of a word the other way round, lowest first, are its octets.
+use mathlib.Core.Path.{ap, _∙_}
+use mathlib.Core.List.{List}
+use Prim.Native.Nat.{ℕ}
 use native.Mathlib.Omega.{arith}
-use Rattle.octets.proofs.BigEndian.{overwrite-halves}
+use Rattle.octets.specs.Overwrite.{overwrite}
+use Rattle.octets.proofs.LittleEndian.{littleOctets-swapped}
 use borrow.Author.Needs.{needs}
 use Rattle.octets.proofs.write32.Statement.{statement}
 use Rattle.octets.proofs.write32.Tie as tie
 
-cast-write16 : tie.Need-cast-write16
-cast-write16 c = search needs
+swapped-requires : tie.Need-swapped-requires
+swapped-requires c κs = search needs
 
-write16-requires : tie.Need-write16-requires
-write16-requires c κs = search needs
-
-add-write16 : tie.Need-add-write16
-add-write16 c = search needs
-
-cast-write16-2 : tie.Need-cast-write16-2
-cast-write16-2 c = search needs
-
-write16-requires-2 : tie.Need-write16-requires-2
-write16-requires-2 c κs = search needs
+put-little32-requires : tie.Need-put-little32-requires
+put-little32-requires c κs = search needs
 
 same-length : tie.Need-same-length
 same-length c = search needs
 
 returns : tie.Need-returns
 returns c =
-    let a = c .before .before .before .before .before .before .before .before .before .args in
-    overwrite-halves 2 (a .v) (a .s .now) _ _ (a .at) (omega arith)
-    (c .before .before .before .before .before .before .write16 .ensures) (c .before .before .write162 .ensures)
+    let k = c .before .before in
+    let a = k .before .before .before .before .args in
+    k .put-little32 .ensures ∙ ap (λ (l : List ℕ). overwrite (a .s .now) (a .at) l) (littleOctets-swapped (a .v) _ (omega arith) (k .before .swapped .ensures))
 
 pub write32-spec : {M : Type 1} → statement M
-write32-spec =
-    tie.close
-    (tie.spec
-    cast-write16
-    write16-requires
-    add-write16
-    cast-write16-2
-    write16-requires-2
-    same-length
-    returns)
+write32-spec = tie.close (tie.spec swapped-requires put-little32-requires same-length returns)
