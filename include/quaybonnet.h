@@ -16,9 +16,9 @@ extern "C" {
 #define QB_NO_PLACE 65535
 
 /*
- * Asks the filter of one packet: the side that it came from (0 or 1), a clock in ms, the table, the packet from its IPv4 header on.
- * Returns answer * 65536 + place. On answer 0 the packet may pass, and the table is changed; on every other it is to be dropped, and no
- * byte of the table has changed. The packet is only read.
+ * Asks the filter about one packet: the side that it came from (0 or 1), a clock in ms, the table, the packet from its IPv4 header on.
+ * Returns answer * 65536 + place. On answer 0 the packet may pass, and the header clock and the entry at that place have been written;
+ * on every other it is to be dropped, and no byte of the table has changed. The packet is only read.
  *
  * table and packet must point to as many bytes as their lengths say and not overlap; neither may be NULL, not even with length 0.
  * Any side, clock, lengths and bytes are answered; a side over 255 is cut to 8 bits by C before the call. Calls on one table must not run

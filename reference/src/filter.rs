@@ -1,4 +1,4 @@
-//! The gate: one call (document 01, "What the gate says"). "One call takes
+//! The filter: one call (document 01, "What the gate says"). "One call takes
 //! side, clock, table, packet. It gives an answer and a place. The first line
 //! that applies wins, top to bottom."
 

@@ -34,7 +34,7 @@ module _ (a : Ask IPv4) where
   unfoldable pub payloadOf : ℕ
   payloadOf = a .segment .octets .0 - syn (a .segment .flags) - fin (a .segment .flags)
 
-  -- version 4 and 5 words of header, total length; no fragment; 64 hops to live, protocol 6, the checksum given; addresses
+  -- version 4 and 5 words of header, total length; no fragment; time to live 64, protocol 6, the checksum given; addresses
   unfoldable pub ipHeader : ℕ → List Field
   ipHeader sum =
       u8 0x45 ∷ u8 0 ∷ u16 (20 + 20 + payloadOf)

@@ -1,3 +1,4 @@
 pub mod Outcome
 pub mod Call
 pub mod Decided
+pub mod Ignored

@@ -1,4 +1,4 @@
--- Four octets as one number, the first the lowest: what one load of the machine reads.
+-- Four octets as one number, the first the lowest: what one load of a little-endian machine reads.
 use Prim.Native.Nat.{ℕ, _+_, _*_, _/_, _%_, _<_}
 use mathlib.Core.List.{List, [], _∷_}
 use lib.ListN.{getD}

@@ -1,4 +1,4 @@
-// Big-endian numbers of 2, 4 and 8 octets in lent bytes, at an offset.
+// Big-endian numbers of 2, 4 and 8 octets in lent bytes, at an offset; by words that are read and stored lowest octet first.
 ghost use mathlib.Core.Path.{_≡_};
 ghost use Prim.Native.Nat.{_+_, _*_, _/_, _%_, _≤_, _<_};
 ghost use lib.ListN.{length};
@@ -20,7 +20,7 @@ pub fn read16(s: &[u8], at: usize) -> u16
     (wide(s[at]) * 256 + wide(s[at + 1])) as u16
 }
 
-// Four octets with the first one lowest: written so, the sum is one load of the machine.
+// Four octets with the first one lowest: in this form the compiler makes one load of the sum.
 pub fn little32(s: &[u8], at: usize) -> u32
     requires { ⌜ at + 4 ≤ length (now s) ⌝ }
     ensures { λ r. ⌜ r ≡ littleEndian (now (s .entry)) at ⌝ }
@@ -29,7 +29,7 @@ pub fn little32(s: &[u8], at: usize) -> u32
     wide(s[at]) + wide(s[at + 1]) * 256 + wide(s[at + 2]) * 65536 + wide(s[at + 3]) * 16777216
 }
 
-// A word's octets the other way round: written so, one instruction.
+// A word's octets the other way round: in this form the compiler makes one instruction of it.
 fn swapped(w: u32) -> u32
     ensures { λ r. ⌜ r ≡ w % 256 * 16777216 + w / 256 % 256 * 65536 + w / 256 / 256 % 256 * 256 + w / 256 / 256 / 256 ⌝ }
 {
@@ -50,7 +50,7 @@ pub fn read64(s: &[u8], at: usize) -> u64
     read32(s, at) as u64 * 4294967296 + read32(s, at + 4) as u64
 }
 
-// Turned first, so that the two octets are one store.
+// Turned first, so that the compiler makes one store of the two octets.
 pub fn write16(s: &mut [u8], at: usize, v: u16)
     requires { ⌜ at + 2 ≤ length (now s) ⌝ }
     ensures { λ r. ⌜ now (s .exit) ≡ overwrite (now (s .entry)) at (octetsOf 2 v) ⌝ }
@@ -60,7 +60,7 @@ pub fn write16(s: &mut [u8], at: usize, v: u16)
     s[at + 1] = (turned / 256) as u8;
 }
 
-// Four octets of a word, its lowest first: written so, they are one store of the machine.
+// Four octets of a word, its lowest first: in this form the compiler makes one store of them.
 fn put_little32(s: &mut [u8], at: usize, w: u32)
     requires { ⌜ at + 4 ≤ length (now s) ⌝ }
     ensures { λ r. ⌜ now (s .exit) ≡ overwrite (now (s .entry)) at (littleOctets w) ⌝ }

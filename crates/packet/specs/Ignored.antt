@@ -1,4 +1,4 @@
--- "Bytes past total length are ignored."
+-- Document 01, "What the gate says": "Bytes past total length are ignored."
 use Prim.Native.Nat.{ℕ, _≤_}
 use mathlib.Core.Path.{_≡_}
 use mathlib.Core.List.{List, _++_}

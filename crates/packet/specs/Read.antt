@@ -1,4 +1,4 @@
--- What reading a packet gives: answers 5 to 10 of document 01 in its order, each cause apart, or the flow and the segment.
+-- What reading a packet gives: answers 5 to 10 of document 01 in its order, 14 causes told apart, or the flow and the segment.
 -- p is the packet's bytes, h its header length, t its total length.
 use Prim.Native.Nat.{ℕ, _+_, _-_}
 use mathlib.Core.Bool.{_&&_, _||_, not}

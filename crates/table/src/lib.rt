@@ -35,7 +35,7 @@ fn either(a: u64, b: u64) -> u64
     a | b
 }
 
-// Nought exactly where eight octets are zeros, where 16 are, where 64 are.
+// 0 exactly where eight octets are zeros, where 16 are, where 64 are.
 fn any8(table: &[u8], at: usize) -> u64
     requires { ⌜ at + 8 ≤ length (now table) ⌝ }
     ensures { λ r. ⌜ (r ≡ 0 → zerosAt (now (table .entry)) at 8 ≡ true) × (zerosAt (now (table .entry)) at 8 ≡ true → r ≡ 0) ⌝ }
@@ -256,7 +256,7 @@ fn odd_end(end: End) -> u64
     )
 }
 
-// Nought exactly where a deadline is no later than it may be.
+// 0 exactly where a deadline is no later than it may be.
 fn late(most: u64, deadline: u64) -> u64
     ensures { λ r. ⌜ (r ≡ 0 → deadline ≤ most) × (deadline ≤ most → r ≡ 0) ⌝ }
 {

@@ -174,20 +174,20 @@ fn larger(a: u8, b: u8) -> u8
 }
 
 // 0 only for a hex digit.
-fn strangeness(b: u8) -> u8
+fn not_hex(b: u8) -> u8
     ensures { λ r. ⌜ (r ≡ 0 → isHex b ≡ true) ⌝ }
 {
     if is_hex(b) { 0 } else { 1 }
 }
 
 // 0 only if every byte from position 15 on is a hex digit. It has no early return, so that many bytes are tested at a time.
-fn strangest(line: &[u8]) -> u8
+fn any_not_hex(line: &[u8]) -> u8
     ensures { λ r. ⌜ (r ≡ 0 → HexFrom (now (line .entry)) 15 (length (now (line .entry)))) ⌝ }
 {
     let mut worst: u8 = 0;
     let mut i = 15;
     while i < line.len() {
-        worst = larger(worst, strangeness(line[i]));
+        worst = larger(worst, not_hex(line[i]));
         i += 1;
     }
     worst
@@ -199,7 +199,7 @@ fn least(a: usize, b: usize) -> usize
     if a < b { a } else { b }
 }
 
-// An illegal byte is rare: all bytes are tested at once, and only if one is strange is it looked for.
+// An illegal byte is rare: all bytes are tested at once, and only if one is no digit is it looked for.
 fn first_illegal(line: &[u8]) -> usize
     ensures { λ r. ⌜ r ≡ firstIllegal (now (line .entry)) ⌝ }
 {
@@ -209,7 +209,7 @@ fn first_illegal(line: &[u8]) -> usize
     if offset < head {
         return offset;
     }
-    if strangest(line) == 0 {
+    if any_not_hex(line) == 0 {
         return len;
     }
     illegal_before(line, len)

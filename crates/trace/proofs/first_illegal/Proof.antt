@@ -17,14 +17,14 @@ returns c =
     let h = c .before .illegal-before .ensures in
     h ∙ illegal-in-part _ _ (omega (arith, c .before .before .least .ensures)) (rw (← h) (c .if1 .taken))
 
-strangest-requires : tie.Need-strangest-requires
-strangest-requires c κs = search needs
+any-not-hex-requires : tie.Need-any-not-hex-requires
+any-not-hex-requires c κs = search needs
 
 returns-2 : tie.Need-returns-2
 returns-2 c =
     let e = c .before .before in
     let h = e .before .illegal-before .ensures in
-    sym (all-legal _ _ (e .before .before .least .ensures) (rw (← h) (e .if1 .left)) (c .before .strangest .ensures (c .if2 .taken)))
+    sym (all-legal _ _ (e .before .before .least .ensures) (rw (← h) (e .if1 .left)) (c .before .any-not-hex .ensures (c .if2 .taken)))
 
 illegal-before-requires-2 : tie.Need-illegal-before-requires-2
 illegal-before-requires-2 c κs = search needs
@@ -40,7 +40,7 @@ first-illegal-spec =
     least-requires
     illegal-before-requires
     returns
-    strangest-requires
+    any-not-hex-requires
     returns-2
     illegal-before-requires-2
     returns-3)

@@ -1,0 +1,8 @@
+-- Bytes past total length are ignored, since the packet reader ignores them.
+use Rattle.packet.proofs.Ignored.{past-total-ignored}
+use Rattle.filter.specs.Call.{outcomeOf}
+use Rattle.filter.specs.Ignored.{PastTotalIgnoredByCall}
+
+pub past-total-ignored-by-call : PastTotalIgnoredByCall
+unfolding outcomeOf
+past-total-ignored-by-call side clock t p past whole given = rw (past-total-ignored p past whole given)
