@@ -1,4 +1,5 @@
--- Laws of a line's result: how it goes by the reader's answer, that its text is short, and that a line cut at 4,112 bytes has it.
+-- Laws of a line's result: how it goes by the reader's answer, that it is never 23, that its text is short, and that a line cut
+-- at 4,112 bytes has it.
 use Prim.Native.Nat.{ℕ, _+_, _≤_, _<_}
 use mathlib.Core.Path.{_≡_, refl, sym, ap, _∙_}
 use mathlib.Core.Logic.{⊎-elim}
@@ -6,7 +7,7 @@ use mathlib.Core.List.{List}
 use native.Mathlib.Omega.{arith}
 use lib.ListN.{length, take, drop, length-take}
 use lib.Seq.{take-all}
-use borrow.Author.Tests.{ltb-false}
+use borrow.Author.Tests.{ltb-true, ltb-false}
 use Rattle.choice.proofs.Choice.{if-cases, if-=, if-=-not}
 use Rattle.choice.proofs.Tests.{lt-or-ge}
 use Rattle.octets.specs.Overwrite.{overwrite}
@@ -24,28 +25,33 @@ use Rattle.report.proofs.Text.{length-decimalText≤, length-resultText}
 use Rattle.filter.specs.Call.{outcomeOf, replyOf, tableAfter}
 use Rattle.filter.specs.Outcome.{Outcome, Blocked, Passed}
 use Rattle.filter.specs.declared.Reply.{Reply}
-use Rattle.filter.proofs.Fits.{Within, outcome-within}
+use Rattle.filter.proofs.Fits.{Within, outcome-within, reply-small}
 use Rattle.replay.specs.Feed.{Memory, memory, withAnswer, withUsed, withResult, withLine, withTotal}
 use Rattle.replay.specs.Written.{resultRoom}
 use Rattle.replay.specs.declared.Progress.{Progress}
-use Rattle.replay.specs.Printed.{Result, room, ofCall, ofRead, resultOf}
+use Rattle.replay.specs.Printed.{Result, room, ofCall, ofRead, resultOf, Never23}
 
 -- The reader's answer
 
--- an offset lies in a line of at most 4,111 characters, and a packet fits
+-- an offset lies in a line of at most 4,111 characters, whose packet fits
 abbrev Bounded : List ℕ → LineRead → Type 0
 Bounded line TooLong = Unit {0}
 Bounded line (Malformed offset) = offset ≤ 4111
-Bounded line NoRoom = Unit {0}
+Bounded line NoRoom = ⊥
 Bounded line (Frame side clock n) = (n ≡ packetLength line) × (n ≤ room)
+
+packet-fits : (line : List ℕ) → length line ≤ 4111 → packetLength line ≤ room
+unfolding packetLength
+packet-fits line short = omega arith
 
 -- each answer comes with the tests that it passed
 readLine-bounded : (line : List ℕ) → Bounded line (readLine line room)
 unfolding readLine
 readLine-bounded line =
     if-cases (Bounded line) _ _ _ (λ _. tt)
-    (λ short. if-cases (Bounded line) _ _ _ (λ _. omega (arith, firstIllegal≤length line, ltb-false 4111 (length line) short))
-    (λ _. if-cases (Bounded line) _ _ _ (λ _. tt) (λ fits. (refl, ltb-false room (packetLength line) fits))))
+    (λ t. let short = ltb-false 4111 (length line) t in if-cases (Bounded line) _ _ _ (λ _. omega (arith, firstIllegal≤length line, short))
+    (λ _. if-cases (Bounded line) _ _ _ (λ over. omega (arith, packet-fits line short, ltb-true room (packetLength line) over))
+    (λ fits. (refl, ltb-false room (packetLength line) fits))))
 
 -- what the filter is shown: the packet of the line
 pub frame-packet : (line packet : List ℕ) (read : LineRead) (side clock n : ℕ) → read ≡ readLine line room → read ≡ Frame side clock n → length packet ≡ room → (n ≤ room) × (take n (drop 0 (packetAfter read line packet)) ≡ packetOf line)
@@ -66,6 +72,18 @@ resultOf-read line t read e = ap (λ r. ofRead r line t) (sym e)
 pub resultOf-frame : (line t packet after : List ℕ) (side clock n : ℕ) (reply : Reply) (shown : Shown) → Frame side clock n ≡ readLine line room → packet ≡ packetOf line → (reply ≡ replyOf (outcomeOf side clock t packet)) × (after ≡ tableAfter t (outcomeOf side clock t packet)) → shown ≡ shownPlace (reply .place) → _≡_ {A = Result} (record { answer = reply .answer; shown = shown; table = after }) (resultOf line t)
 resultOf-frame line t packet after side clock n reply shown whole is called place =
     rw (resultOf-read line t (Frame side clock n) whole, ← is, place, called .1, called .0)
+
+-- each answer but 23
+read-never-23 : (line t : List ℕ) (read : LineRead) → Bounded line read → ofRead read line t .answer ≡ 23 → ⊥
+unfolding readAnswer
+read-never-23 line t TooLong b e = omega arith
+read-never-23 line t (Malformed offset) b e = omega arith
+read-never-23 line t NoRoom b e = b
+read-never-23 line t (Frame side clock n) b e = omega (arith, reply-small side clock t (packetOf line) .0)
+
+pub never-23 : Never23
+unfolding resultOf
+never-23 line t = read-never-23 line t (readLine line room) (readLine-bounded line)
 
 -- a line that is cut where it is too long already is still too long
 pub resultOf-cut : (line t : List ℕ) → resultOf (take 4112 line) t ≡ resultOf line t
@@ -107,7 +125,7 @@ read-short : (line t : List ℕ) (read : LineRead) → Bounded line read → Sho
 unfolding readAnswer
 read-short line t TooLong b = dash-short t 21 (omega arith)
 read-short line t (Malformed offset) b = number-short t 22 offset (omega arith) (omega arith)
-read-short line t NoRoom b = dash-short t 23 (omega arith)
+read-short line t NoRoom b = absurd b
 read-short line t (Frame side clock n) b = call-short t (outcomeOf side clock t (packetOf line)) (outcome-within side clock t (packetOf line))
 
 -- so it is for every line

@@ -18,7 +18,7 @@ use Rattle.report.specs.Text.{resultText, totalText}
 use Rattle.report.proofs.Text.{length-totalText≤52}
 use Rattle.replay.specs.Printed.{newline, linesFrom, linesOf, resultOf, Run, passes, afterLine, afterLines, printed}
 use Rattle.replay.specs.Feed.{Memory, memory, withByte, withLine, afterPiece, atEnd, withTotal}
-use Rattle.replay.specs.Written.{atStart, resultRoom, totalRoom, toWrite, emptied, written, joined, HasRoom, WritesPrinted, programTable, ProgramWritesPrinted}
+use Rattle.replay.specs.Written.{atStart, resultRoom, totalRoom, toWrite, emptied, written, joined, HasRoom, WritesPrinted, programTable, PiecesUpTo, ProgramWritesPrinted}
 use Rattle.replay.specs.declared.Progress.{Progress}
 use Rattle.replay.proofs.Line.{withByte-room, withByte-full, afterPiece-none, afterPiece-at-newline, afterPiece-at-other}
 use Rattle.replay.proofs.Answer.{resultOf-cut, result-short}
@@ -274,8 +274,15 @@ writes-printed m pieces size start room few =
     pieces-written (length (m .out)) pieces [] m (fresh (m .table)) [] (follows-start (m .table) (m .line) (m .out) (m .progress) start size) (ap (λ p. p .used) start) room
     (omega (arith, h .0), omega (arith, h .1))
 
+-- 8 characters for each of 65,536 bytes
+program-room : (n : ℕ) (pieces : List (List ℕ)) → n ≡ 524288 → PiecesUpTo 65536 pieces → HasRoom n pieces
+unfolding HasRoom PiecesUpTo
+program-room n [] e most = omega arith
+program-room n (piece ∷ pieces) e most = (omega (arith, most .0), program-room n pieces e (most .1))
+
 pub program-writes-printed : ProgramWritesPrinted
-program-writes-printed line out pieces size room few = writes-printed (memory programTable line out atStart) pieces size refl room few
+program-writes-printed line out pieces size large most few =
+    writes-printed (memory programTable line out atStart) pieces size refl (program-room (length out) pieces large most) few
 
 -- Sentences of document 01 on the program, by computation
 

@@ -1,5 +1,6 @@
 -- What is printed of a trace (document 01, "Trace lines"), told of the whole input. Input, lines and text are lists of bytes.
 use Prim.Native.Nat.{ℕ, _+_}
+use mathlib.Core.Path.{_≡_}
 use mathlib.Core.List.{List, [], _∷_, _++_}
 use lib.ListN.{length}
 use Rattle.choice.specs.Choice.{if_then_else_, _=ᵇ_}
@@ -35,7 +36,7 @@ pub record Result : Type 0 where
   pub shown : Shown
   pub table : List ℕ
 
--- a line's packet has at most 2,048 bytes, so reading never lacks room
+-- a line's packet has at most 2,048 bytes, so reading never lacks room: `Never23`
 abbrev pub room : ℕ
 room = 2048
 
@@ -52,6 +53,10 @@ ofRead (Frame side clock n) line t = ofCall t (outcomeOf side clock t (packetOf 
 
 unfoldable pub resultOf : List ℕ → List ℕ → Result
 resultOf line t = ofRead (readLine line room) line t
+
+-- no line is answered 23: one of at most 4,111 characters has at most 2,048 packet bytes, and the filter's answers are at most 15
+abbrev pub Never23 : Type 0
+Never23 = (line t : List ℕ) → resultOf line t .answer ≡ 23 → ⊥
 
 -- The whole input
 

@@ -1,4 +1,4 @@
--- What a program writes that is given its input in pieces, and writes after each what the output then holds.
+-- What a program writes that takes its input in pieces and, after each, writes what the output then holds.
 use Prim.Native.Nat.{ℕ, _+_, _*_, _^_, _≤_, _<_}
 use mathlib.Core.Path.{_≡_}
 use mathlib.Core.List.{List, [], _∷_, _++_}
@@ -48,11 +48,19 @@ WritesPrinted =
     (m : Memory) (pieces : List (List ℕ)) → length (m .line) ≡ lineRoom → m .progress ≡ atStart →
     HasRoom (length (m .out)) pieces → length (linesOf (joined pieces)) < 2 ^ 64 → written m pieces ≡ printed (m .table) (joined pieces)
 
--- the program: its table has 64 places and starts as 4,160 zero bytes
+-- The program
+
+-- its table has 64 places and starts as 4,160 zero bytes
 abbrev pub programTable : List ℕ
 programTable = replicate 4160 0
 
+-- every piece has at most so many bytes
+unfoldable pub PiecesUpTo : ℕ → List (List ℕ) → Type 0
+PiecesUpTo most [] = Unit {0}
+PiecesUpTo most (piece ∷ pieces) = (length piece ≤ most) × PiecesUpTo most pieces
+
+-- with the program's buffers: 64 places of zeros, pieces of at most 65,536 bytes, 8 characters of output for each byte
 abbrev pub ProgramWritesPrinted : Type 0
 ProgramWritesPrinted =
-    (line out : List ℕ) (pieces : List (List ℕ)) → length line ≡ lineRoom → HasRoom (length out) pieces → length (linesOf (joined pieces)) < 2 ^ 64 →
-    written (memory programTable line out atStart) pieces ≡ printed programTable (joined pieces)
+    (line out : List ℕ) (pieces : List (List ℕ)) → length line ≡ lineRoom → length out ≡ 524288 → PiecesUpTo 65536 pieces →
+    length (linesOf (joined pieces)) < 2 ^ 64 → written (memory programTable line out atStart) pieces ≡ printed programTable (joined pieces)

@@ -43,7 +43,7 @@ pub fn start() -> Progress
 }
 
 // The output has been written.
-pub fn written(progress: Progress) -> Progress
+pub fn emptied(progress: Progress) -> Progress
     ensures { λ r. ⌜ r ≡ withUsed progress 0 ⌝ }
 {
     Progress {
@@ -60,7 +60,7 @@ fn smaller(a: u8, b: u8) -> u8
     if a < b { a } else { b }
 }
 
-// The smallest of 32 bytes. It has no early return, so that many bytes are compared at a time.
+// A number no larger than any of 32 bytes: the smallest. It has no early return, so that many bytes are compared at a time.
 fn smallest(piece: &[u8], at: usize) -> u8
     requires { ⌜ at + 32 ≤ length (now piece) ⌝ }
     ensures { λ r. ⌜ ((k : ℕ) → k < 32 → r ≤ getD (now (piece .entry)) (at + k) 0) ⌝ }
@@ -207,7 +207,8 @@ fn end_line(
     put_answer(out, progress, answer, shown)
 }
 
-// Takes a piece of the input in.
+// Takes in a piece of the input: each line that ends in it is answered and its text added to out; what follows the last newline
+// is kept in line.
 pub fn feed(
     piece: &[u8],
     line: &mut [u8],

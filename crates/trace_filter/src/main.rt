@@ -49,7 +49,7 @@ fn run(piece: &mut Piece, line: &mut Line, table: &mut Table, out: &mut Output) 
         if !write_used(out, fed.used) {
             return;
         }
-        progress = replay::written(fed);
+        progress = replay::emptied(fed);
     }
 }
 

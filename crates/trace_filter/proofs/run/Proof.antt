@@ -48,14 +48,14 @@ write-used-requires c κs = search needs
 returns-2 : tie.Need-returns-2 Inv-loop μ-loop
 returns-2 c = search needs
 
-written-requires : tie.Need-written-requires Inv-loop μ-loop
-written-requires c κs = search needs
+emptied-requires : tie.Need-emptied-requires Inv-loop μ-loop
+emptied-requires c κs = search needs
 
 loop-less : tie.Need-loop-less Inv-loop μ-loop
 loop-less c = search needs
 
 loop-again : tie.Need-loop-again Inv-loop μ-loop
-loop-again c = let e = c .written .ensures in (omega (arith, ap (λ p. p .kept) e), ap (λ p. p .used) e)
+loop-again c = let e = c .emptied .ensures in (omega (arith, ap (λ p. p .kept) e), ap (λ p. p .used) e)
 
 returns-3 : tie.Need-returns-3 Inv-loop μ-loop
 returns-3 c = search needs
@@ -78,7 +78,7 @@ run-spec =
     feed-requires
     write-used-requires
     returns-2
-    written-requires
+    emptied-requires
     loop-less
     loop-again
     returns-3)
