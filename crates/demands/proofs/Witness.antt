@@ -1,4 +1,4 @@
--- The witness on bytes is legal, since its packets are read as what they were made from, and so its arrivals all pass.
+-- The witness on bytes is legal, since its packets are read as what they were made from, or refused, and so its arrivals all pass.
 use Prim.Native.Nat.{ℕ, _≤_}
 use mathlib.Core.Path.{_≡_, refl, ap, _∙_}
 use mathlib.Core.List.{List, [], _∷_}
@@ -7,9 +7,11 @@ use Rattle.choice.specs.Choice.{if_then_else_}
 use Rattle.serial.specs.Ring.{wrap}
 use Rattle.octets.specs.Digits.{number, digits}
 use Rattle.octets.specs.BigEndian.{bigEndian, octetsOf}
+use Rattle.octets.specs.Overwrite.{overwrite}
 use Rattle.packet.specs.Sum.{onesPlus, onesSum}
 use Rattle.packet.specs.Read.{readPacket}
 use Rattle.honest.specs.Filter.{connections}
+use Rattle.honest.specs.Machine.{refused}
 use Rattle.honest.specs.Rules.{Event, Pair}
 use Rattle.honest.specs.Honest.{Legal, NeverBlocked}
 use Rattle.honest.specs.Demand2.{fresh}
@@ -17,12 +19,12 @@ use Rattle.honest.specs.IPv4.{IPv4}
 use Rattle.honest.specs.Instance.{ListCall, listMachine}
 use Rattle.honest.specs.Carries.{Carries, readings, shownBy}
 use Rattle.honest.specs.Witness.{ends, witness}
-use Rattle.honest.proofs.Transfer.{made-carries, legal-carried, shown-carried}
+use Rattle.honest.proofs.Transfer.{made-carries, refused-carries, legal-carried, shown-carried}
 use Rattle.honest.proofs.Witness.{witness-legal, witness-shows}
 use Rattle.demands.specs.Bytes.{BytesCall, SoundBytes, readingOf, bytesMachine}
 use Rattle.demands.specs.Demands.{freshBytes}
 use Rattle.demands.specs.Packets.{fieldOctets, octetsIn, checksum, payloadOf, ipHeader, tcpHeader, pseudoHeader, packetOf, bytesCall}
-use Rattle.demands.specs.Witness.{bytesWitness}
+use Rattle.demands.specs.Witness.{madeWitness, wrongSum, fragment, bytesWitness}
 use Rattle.demands.proofs.Fresh.{fresh-bytes-sound, fresh-bytes-view}
 use Rattle.demands.proofs.Keeps.{bytes-keep}
 use Rattle.demands.proofs.Demands.{demand3-on-bytes}
@@ -41,12 +43,18 @@ module _ (n : ℕ) (some : 1 ≤ n) (most : n ≤ 512) (P : Pair IPv4) {L : List
 
 -- The witness
 
-all-read : readings bytesMachine bytesWitness ≡ readings (listMachine IPv4) witness
-unfolding if_then_else_ wrap number digits bigEndian octetsOf onesPlus onesSum readPacket readingOf fieldOctets octetsIn checksum payloadOf ipHeader tcpHeader pseudoHeader packetOf
-all-read = refl
+all-read : (readings bytesMachine madeWitness ≡ readings (listMachine IPv4) witness) × (readingOf wrongSum ≡ refused 6 65535) × (readingOf fragment ≡ refused 7 65535)
+unfolding if_then_else_ wrap number digits bigEndian octetsOf overwrite onesPlus onesSum readPacket readingOf fieldOctets octetsIn checksum payloadOf ipHeader tcpHeader pseudoHeader packetOf
+all-read = (refl, refl, refl)
+
+-- the two packets that are malformed
+pub bytes-witness-refuses : (readingOf wrongSum ≡ refused 6 65535) × (readingOf fragment ≡ refused 7 65535)
+bytes-witness-refuses = (all-read .1, all-read .2)
 
 witness-carried : Carries bytesMachine bytesWitness witness
-witness-carried = made-carries bytesMachine (λ b. bytesCall (b .0)) witness all-read
+witness-carried =
+    refused-carries bytesMachine 27 fragment 7 65535 (bytes-witness-refuses .1)
+    (refused-carries bytesMachine 42 wrongSum 6 65535 (bytes-witness-refuses .0) (made-carries bytesMachine (λ b. bytesCall (b .0)) witness (all-read .0)))
 
 pub bytes-witness-legal : Legal bytesMachine (freshBytes 64) ends bytesWitness
 bytes-witness-legal = legal-on-bytes 64 (omega arith) (omega arith) ends witness-carried witness-legal
@@ -54,6 +62,6 @@ bytes-witness-legal = legal-on-bytes 64 (omega arith) (omega arith) ends witness
 pub bytes-witness-passes : NeverBlocked bytesMachine (freshBytes 64) ends bytesWitness
 bytes-witness-passes = demand3-on-bytes 64 (omega arith) (omega arith) ends (omega arith) bytesWitness bytes-witness-legal
 
--- of the calls that are no arrivals, the two openings pass and the two others are blocked; every FIN has passed
+-- of the calls that ask something and are no arrivals, the two openings pass and the two others are blocked; every FIN has passed
 pub bytes-witness-shows : shownBy bytesMachine (freshBytes 64) ends bytesWitness ≡ record { others = 0 ∷ 11 ∷ 14 ∷ 0 ∷ []; place = 1; stage = 5 }
 bytes-witness-shows = shown-on-bytes 64 (omega arith) (omega arith) ends witness-carried ∙ witness-shows

@@ -1,10 +1,35 @@
--- The legal list of `honest` on bytes: each call lends the packet that brings what it asks.
+-- The legal list of `honest` on bytes: each call lends the packet that brings what it asks, and two more lend packets that are refused.
+use Prim.Native.Nat.{ℕ}
 use mathlib.Core.List.{List, map}
+use Rattle.octets.specs.BigEndian.{octetsOf}
+use Rattle.octets.specs.Overwrite.{overwrite}
+use Rattle.octets.proofs.Octets.{octets-octetsOf, octets-overwrite}
 use Rattle.honest.specs.Rules.{Event}
-use Rattle.honest.specs.Carries.{withCall}
-use Rattle.honest.specs.Witness.{witness}
+use Rattle.honest.specs.Carries.{withCall, withOther}
+use Rattle.honest.specs.Witness.{o, brings, witness}
 use Rattle.demands.specs.Bytes.{BytesCall}
 use Rattle.demands.specs.Packets.{bytesCall}
 
+abbrev pub madeWitness : List (Event BytesCall)
+madeWitness = map (withCall (λ b. bytesCall (b .0))) witness
+
+-- a call with n bytes of its packet, from one on, made the octets of v
+abbrev pub spoilt : (from n v : ℕ) → BytesCall → BytesCall
+spoilt from n v q = record {
+  side = q .side;
+  clock = q .clock;
+  packet = overwrite (q .packet) from (octetsOf n v);
+  octets = octets-overwrite (q .packet) from (octetsOf n v) (q .octets) (octets-octetsOf n v);
+}
+
+-- the opener's sending 3 with a time to live of 63 for 64: the header's sum is wrong
+abbrev pub wrongSum : BytesCall
+wrongSum = spoilt 8 1 63 (bytesCall (brings 3900 (o 3) .0))
+
+-- its sending 5 with more-fragments set and a time to live of 32, so that the sum is right
+abbrev pub fragment : BytesCall
+fragment = spoilt 6 3 0x200020 (bytesCall (brings 5900 (o 5) .0))
+
+-- each right before the arrival of the packet that it was made from, which is 27th and 42nd from the end
 abbrev pub bytesWitness : List (Event BytesCall)
-bytesWitness = map (withCall (λ b. bytesCall (b .0))) witness
+bytesWitness = withOther 27 fragment (withOther 42 wrongSum madeWitness)

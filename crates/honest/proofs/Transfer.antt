@@ -1,21 +1,23 @@
 -- A list that is legal over the filter is legal over every machine that keeps to it and is asked the same.
-use Prim.Native.Nat.{ℕ, _+_, _<_, max}
+use Prim.Native.Nat.{ℕ, zero, suc, _+_, _<_, max}
 use mathlib.Core.Path.{_≡_, refl, sym, ap, _∙_}
 use mathlib.Core.Logic.{inl, inr, ⊎-elim}
-use mathlib.Core.Bool.{true}
+use mathlib.Core.Bool.{true, false}
 use mathlib.Core.List.{List, [], _∷_, map, reverse}
 use lib.ListN.{length}
+use borrow.Author.Tests.{ne-eqb}
 use Rattle.choice.specs.Choice.{if_then_else_, _=ᵇ_}
+use Rattle.choice.proofs.Tests.{false-true}
 use Rattle.connection.specs.Stages.{lifeOf}
 use Rattle.history.specs.History.{LineSegment, stageOf}
 use Rattle.honest.specs.Keys.{Keys}
 use Rattle.honest.specs.Rows.{Table}
 use Rattle.honest.specs.Filter.{connections}
-use Rattle.honest.specs.Machine.{asks, Machine, KeepsTo}
+use Rattle.honest.specs.Machine.{refused, asks, Machine, KeepsTo}
 use Rattle.honest.specs.Rules.{Label, opening, arrival, other, Event, send, call, delivery, Pair, sentBy, Sent, receivedBy, answered, Honest, first, later}
 use Rattle.honest.specs.Honest.{Told, clockIn, passes, nextClock, afterSegment, afterCall, told, said, Live, Is, Arrived, Passed, Arrives, FairCall, Legal}
 use Rattle.honest.specs.Instance.{ListCall, listMachine}
-use Rattle.honest.specs.Carries.{Carries, none, sent, called, delivered, LegalCarried, withCall, readings, otherAnswers, shownBy, ShownCarried}
+use Rattle.honest.specs.Carries.{Carries, none, sent, called, refused-alone, delivered, LegalCarried, withCall, withOther, readings, ifAsked, otherAnswers, shownBy, ShownCarried}
 
 -- What ends have sent and received
 
@@ -31,6 +33,7 @@ module _ {K : Keys} (M : Machine K) where
   sentBy-same i none = refl
   sentBy-same i (sent {p = p} c) = ap (λ (l : List LineSegment). if p .from =ᵇ i then p ∷ l else l) (sentBy-same i c)
   sentBy-same i (called is c) = sentBy-same i c
+  sentBy-same i (refused-alone is c) = sentBy-same i c
   sentBy-same i (delivered c) = sentBy-same i c
 
   receivedBy-same : (i : ℕ) {L : Carrying} {N : Carried} → Carries M L N → receivedBy i L ≡ receivedBy i N
@@ -38,6 +41,7 @@ module _ {K : Keys} (M : Machine K) where
   receivedBy-same i none = refl
   receivedBy-same i (sent c) = receivedBy-same i c
   receivedBy-same i (called is c) = receivedBy-same i c
+  receivedBy-same i (refused-alone is c) = receivedBy-same i c
   receivedBy-same i (delivered {p = p} c) = ap (λ (l : List LineSegment). if p .from =ᵇ i then l else p ∷ l) (receivedBy-same i c)
 
   sent-carried : (k : ℕ) (p : LineSegment) {L : Carrying} {N : Carried} → Carries M L N → Sent k p N → Sent k p L
@@ -45,6 +49,7 @@ module _ {K : Keys} (M : Machine K) where
   sent-carried k p (sent {p = g} c) was =
       ⊎-elim (λ this. inl (this .0, this .1 ∙ sym (ap length (sentBy-same (g .from) c)))) (λ before. inr (sent-carried k p c before)) was
   sent-carried k p (called is c) was = sent-carried k p c was
+  sent-carried k p (refused-alone is c) was = sent-carried k p c was
   sent-carried k p (delivered c) was = sent-carried k p c was
 
   answered-same : (i : ℕ) {L : Carrying} {N : Carried} → Carries M L N → answered i L ≡ answered i N
@@ -73,6 +78,15 @@ module _ {K : Keys} (M : Machine K) where
   made-carries f (send p ∷ N) all = sent (made-carries f N all)
   made-carries f (call b l ∷ N) all = let this : M .reads (f b) ≡ asks (b .0) = cc in called this (made-carries f N cc)
   made-carries f (delivery k p ∷ N) all = delivered (made-carries f N all)
+
+  -- a refused call put in at any place
+  pub refused-carries : (k : ℕ) (q : M .Call) (n p : ℕ) → M .reads q ≡ refused n p → {L : List (Event (M .Call))} {N : List (Event (ListCall K))} → Carries M L N → Carries M (withOther k q L) N
+  refused-carries zero q n p is c = refused-alone is c
+  refused-carries (suc k) q n p is none = refused-alone is none
+  refused-carries (suc k) q n p is (sent c) = sent (refused-carries k q n p is c)
+  refused-carries (suc k) q n p is (called this c) = called this (refused-carries k q n p is c)
+  refused-carries (suc k) q n p is (refused-alone this c) = refused-alone this (refused-carries k q n p is c)
+  refused-carries (suc k) q n p is (delivered c) = delivered (refused-carries k q n p is c)
 
 -- What the calls tell
 
@@ -118,6 +132,26 @@ module _ {K : Keys} (M : Machine K) (Sound : M .State → Type 0) (keeps : Keeps
       until = t .until;
     }
 
+  -- a refused call is blocked and tells nothing
+  module _ (t : Told M s₀ P) (kept : Sound (t .state)) (q : M .Call) (n p : ℕ) (is : M .reads q ≡ refused n p) where
+    refused-not-0 : M .run (t .state) q .answer ≡ 0 → ⊥
+    refused-not-0 e = keeps .refusal-blocks q n p is (sym (keeps .refusal-answered (t .state) q n p kept is) ∙ e)
+
+    refused-no-pass : passes M s₀ P t q ≡ false
+    unfolding passes
+    refused-no-pass = ne-eqb _ 0 refused-not-0
+
+    refused-tells-nothing : t ≡ afterCall M s₀ P t q other
+    unfolding afterCall if_then_else_
+    refused-tells-nothing = λ i. record {
+      state = sym (keeps .blocked-keeps (t .state) q refused-not-0) i;
+      opened = t .opened;
+      place = t .place;
+      passed = t .passed;
+      passClock = if sym refused-no-pass i then max (clockIn M s₀ P (M .reads q)) (t .passClock) else t .passClock;
+      until = t .until;
+    }
+
   after-sound : (t : Told M s₀ P) → Sound (t .state) → (q : M .Call) (l : Label) → Sound (afterCall M s₀ P t q l .state)
   unfolding afterCall
   after-sound t kept q (opening k p) = keeps .sound-kept (t .state) q kept
@@ -129,6 +163,7 @@ module _ {K : Keys} (M : Machine K) (Sound : M .State → Type 0) (keeps : Keeps
   told-sound none = sound
   told-sound (sent c) = told-sound c
   told-sound (called {q = q} {l = l} is c) = after-sound _ (told-sound c) q l
+  told-sound (refused-alone {q = q} is c) = after-sound _ (told-sound c) q other
   told-sound (delivered c) = told-sound c
 
   told-same : {L : Carrying M} {N : Carried M} → Carries M L N → told F t₀ P N ≡ viewed (told M s₀ P L)
@@ -137,6 +172,7 @@ module _ {K : Keys} (M : Machine K) (Sound : M .State → Type 0) (keeps : Keeps
   told-same (sent c) = told-same c
   told-same (called {q = q} {b = b} {l = l} is c) =
       ap (λ (t : Told F t₀ P). afterCall F t₀ P t b l) (told-same c) ∙ same-after _ (told-sound c) q b is l
+  told-same (refused-alone {q = q} {n = n} {p = p} is c) = told-same c ∙ ap viewed (refused-tells-nothing _ (told-sound c) q n p is)
   told-same (delivered c) = told-same c
 
   -- What is asked of each event
@@ -151,6 +187,7 @@ module _ {K : Keys} (M : Machine K) (Sound : M .State → Type 0) (keeps : Keeps
   arrived-carries k p none was = was
   arrived-carries k p (sent c) was = arrived-carries k p c was
   arrived-carries k p (called {l = l} is c) was = ⊎-elim (λ this. inl (rw (is-same l k p) at this)) (λ before. inr (arrived-carries k p c before)) was
+  arrived-carries k p (refused-alone is c) was = ⊎-elim (λ never. absurd never) (λ before. arrived-carries k p c before) was
   arrived-carries k p (delivered c) was = arrived-carries k p c was
 
   module _ {L : Carrying M} {N : Carried M} (c : Carries M L N) where
@@ -202,6 +239,7 @@ module _ {K : Keys} (M : Machine K) (Sound : M .State → Type 0) (keeps : Keeps
   passed-carried k p (sent c) was = passed-carried k p c was
   passed-carried k p (called {q = q} {b = b} {l = l} is c) was =
       ⊎-elim (λ this. inl (rw (is-same l k p) (this .0), passes-same c q b is ∙ this .1)) (λ before. inr (passed-carried k p c before)) was
+  passed-carried k p (refused-alone is c) was = inr (passed-carried k p c was)
   passed-carried k p (delivered c) was = passed-carried k p c was
 
   -- The theorems
@@ -210,6 +248,8 @@ module _ {K : Keys} (M : Machine K) (Sound : M .State → Type 0) (keeps : Keeps
   legal-along none legal = tt
   legal-along (sent {p = p} c) legal = ((legal .0 .0, legal .0 .1, honest-carried M P p c (legal .0 .2)), legal-along c (legal .1))
   legal-along (called {q = q} {b = b} {l = l} is c) legal = (fair-call-carried c q b is l (legal .0), legal-along c (legal .1))
+  legal-along (refused-alone {q = q} {n = n} {p = p} is c) legal =
+      (λ opened live pass place. false-true (sym (refused-no-pass _ (told-sound c) q n p is) ∙ pass), legal-along c legal)
   legal-along (delivered {k = k} {p = p} c) legal = (passed-carried k p c (legal .0), legal-along c (legal .1))
 
   others-same : {L : Carrying M} {N : Carried M} → Carries M L N → otherAnswers M s₀ P L ≡ otherAnswers F t₀ P N
@@ -217,7 +257,8 @@ module _ {K : Keys} (M : Machine K) (Sound : M .State → Type 0) (keeps : Keeps
   others-same (sent c) = others-same c
   others-same (called {l = opening k p} is c) = others-same c
   others-same (called {l = arrival k p} is c) = others-same c
-  others-same (called {q = q} {b = b} {l = other} is c) = λ i. said-answer-same c q b is i ∷ others-same c i
+  others-same (called {q = q} {b = b} {l = other} is c) = λ i. ifAsked (is i) (said-answer-same c q b is i) (others-same c i)
+  others-same (refused-alone {q = q} {L = L} is c) = ap (λ r. ifAsked r (said M s₀ P L q .answer) (otherAnswers M s₀ P L)) is ∙ others-same c
   others-same (delivered c) = others-same c
 
   shown-along : {L : Carrying M} {N : Carried M} → Carries M L N → shownBy M s₀ P L ≡ shownBy F t₀ P N

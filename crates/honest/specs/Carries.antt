@@ -1,20 +1,23 @@
--- A list of a machine's events that carries one of the filter's: it is legal if that is. Lists are newest first.
-use Prim.Native.Nat.{ℕ}
+-- Two lists with the same events, one of a machine's calls, one of the filter's without bytes, each call asking the same; calls that
+-- are refused before any connection is looked for may stand in the first alone. The first is legal if the second is. Lists are
+-- newest first.
+use Prim.Native.Nat.{ℕ, zero, suc}
 use mathlib.Core.Path.{_≡_}
 use mathlib.Core.List.{List, [], _∷_, reverse}
 use Rattle.history.specs.History.{LineSegment, stageOf}
 use Rattle.honest.specs.Keys.{Keys}
 use Rattle.honest.specs.Rows.{Ask}
-use Rattle.honest.specs.Machine.{Reading, asks, Machine}
+use Rattle.honest.specs.Machine.{Reading, refused, asks, Machine}
 use Rattle.honest.specs.Rules.{Label, opening, arrival, other, Event, send, call, delivery, Pair}
 use Rattle.honest.specs.Honest.{told, said, Legal}
 use Rattle.honest.specs.Instance.{ListCall, listMachine}
 
--- the same sendings, deliveries and labels, and each call asks what the filter's asks
+-- the same sendings, deliveries and labels, and each call asks what the filter's asks, or is refused and stands for none
 pub data Carries {K : Keys} (M : Machine K) : List (Event (M .Call)) → List (Event (ListCall K)) → Type 0 where
   none : Carries M [] []
   sent : {p : LineSegment} {L : List (Event (M .Call))} {N : List (Event (ListCall K))} → Carries M L N → Carries M (send p ∷ L) (send p ∷ N)
   called : {q : M .Call} {b : ListCall K} {l : Label} {L : List (Event (M .Call))} {N : List (Event (ListCall K))} → M .reads q ≡ asks (b .0) → Carries M L N → Carries M (call q l ∷ L) (call b l ∷ N)
+  refused-alone : {q : M .Call} {n p : ℕ} {L : List (Event (M .Call))} {N : List (Event (ListCall K))} → M .reads q ≡ refused n p → Carries M L N → Carries M (call q other ∷ L) N
   delivered : {k : ℕ} {p : LineSegment} {L : List (Event (M .Call))} {N : List (Event (ListCall K))} → Carries M L N → Carries M (delivery k p ∷ L) (delivery k p ∷ N)
 
 -- A list whose calls are made from the filter's
@@ -25,6 +28,12 @@ withCall f (send p) = send p
 withCall f (call q l) = call (f q) l
 withCall f (delivery k p) = delivery k p
 
+-- a list with one more call, after which k of its events come
+abbrev pub withOther : {A : Type 0} → (k : ℕ) → A → List (Event A) → List (Event A)
+withOther zero q L = call q other ∷ L
+withOther (suc k) q [] = call q other ∷ []
+withOther (suc k) q (x ∷ L) = x ∷ withOther k q L
+
 -- what the calls of a list are read as
 abbrev pub readings : {K : Keys} (M : Machine K) → List (Event (M .Call)) → List (Reading (Ask K))
 readings M [] = []
@@ -34,17 +43,23 @@ readings M (delivery k p ∷ L) = readings M L
 
 -- What a list shows besides
 
--- the answers to the calls that are no arrivals, oldest first; the place that the opening took; the stage of what has passed there
+-- the answers to the calls that ask something and are no arrivals, oldest first; the place that the opening took; the stage of what has
+-- passed there
 pub record Shown : Type 0 where
   pub others : List ℕ
   pub place : ℕ
   pub stage : ℕ
 
+-- an answer before others, unless its call is refused before any connection is looked for
+abbrev pub ifAsked : {A : Type 0} → Reading A → ℕ → List ℕ → List ℕ
+ifAsked (refused n p) answer l = l
+ifAsked (asks a) answer l = answer ∷ l
+
 module _ {K : Keys} (M : Machine K) (s₀ : M .State) (P : Pair K) where
   -- newest first
   abbrev pub otherAnswers : List (Event (M .Call)) → List ℕ
   otherAnswers [] = []
-  otherAnswers (call q other ∷ L) = said M s₀ P L q .answer ∷ otherAnswers L
+  otherAnswers (call q other ∷ L) = ifAsked (M .reads q) (said M s₀ P L q .answer) (otherAnswers L)
   otherAnswers (call q (opening k p) ∷ L) = otherAnswers L
   otherAnswers (call q (arrival k p) ∷ L) = otherAnswers L
   otherAnswers (send p ∷ L) = otherAnswers L
