@@ -110,26 +110,13 @@ fn least(a: usize, b: usize) -> usize
     if a < b { a } else { b }
 }
 
-// Copies the first n of some bytes into a line from at on.
-fn copy(bytes: &[u8], n: usize, line: &mut [u8], at: usize)
-    requires { ⌜ (n ≤ length (now bytes)) × (at + n ≤ length (now line)) ⌝ }
-    ensures { λ r. ⌜ now (line .exit) ≡ overwrite (now (line .entry)) at (take n (now (bytes .entry))) ⌝ }
-{
-    let mut i = 0;
-    while i < n {
-        line[at + i] = bytes[i];
-        i += 1;
-    }
-}
-
 // Keeps further bytes of a line, and gives how many are kept then; what there is no room for is dropped.
 fn keep(bytes: &[u8], line: &mut [u8], kept: usize) -> usize
     requires { ⌜ kept ≤ length (now line) ⌝ }
     ensures { λ r. ⌜ (r ≡ kept + length (fitting (now (line .entry)) kept (now (bytes .entry)))) × (now (line .exit) ≡ overwrite (now (line .entry)) kept (fitting (now (line .entry)) kept (now (bytes .entry)))) × (r ≤ length (now (line .entry))) ⌝ }
 {
     let n = least(line.len() - kept, bytes.len());
-    copy(bytes, n, line, kept);
-    kept + n
+    report::put_text(line, kept, &bytes[0..n])
 }
 
 // Answers a line; one that the reader refuses is not shown to the filter.

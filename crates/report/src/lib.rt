@@ -51,7 +51,7 @@ pub fn put_decimal(out: &mut [u8], at: usize, value: u64) -> usize
 }
 
 // Writes a text from at on, and gives where it ends.
-fn put_text(out: &mut [u8], at: usize, text: &[u8]) -> usize
+pub fn put_text(out: &mut [u8], at: usize, text: &[u8]) -> usize
     requires { ⌜ at + length (now text) ≤ length (now out) ⌝ }
     ensures { λ r. ⌜ (r ≡ at + length (now (text .entry))) × (now (out .exit) ≡ overwrite (now (out .entry)) at (now (text .entry))) ⌝ }
 {
