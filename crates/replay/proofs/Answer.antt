@@ -27,7 +27,7 @@ use Rattle.filter.specs.Outcome.{Outcome, Blocked, Passed}
 use Rattle.filter.specs.declared.Reply.{Reply}
 use Rattle.filter.proofs.Fits.{Within, outcome-within, reply-small}
 use Rattle.replay.specs.Feed.{Memory, memory, withAnswer, withUsed, withResult, withLine, withTotal}
-use Rattle.replay.specs.Written.{resultRoom}
+use Rattle.replay.specs.Written.{lineRoom, resultRoom}
 use Rattle.replay.specs.declared.Progress.{Progress}
 use Rattle.replay.specs.Printed.{Result, room, ofCall, ofRead, resultOf, Never23}
 
@@ -86,14 +86,14 @@ unfolding resultOf
 never-23 line t = read-never-23 line t (readLine line room) (readLine-bounded line)
 
 -- a line that is cut where it is too long already is still too long
-pub resultOf-cut : (line t : List ℕ) → resultOf (take 4112 line) t ≡ resultOf line t
+pub resultOf-cut : (line t : List ℕ) → resultOf (take lineRoom line) t ≡ resultOf line t
 resultOf-cut line t =
     ⊎-elim
-    (λ (short : length line < 4112). ap (λ l. resultOf l t) (take-all 4112 line (omega arith)))
-    (λ (long : 4112 ≤ length line).
-    resultOf-read (take 4112 line) t TooLong (sym (readLine-too-long (take 4112 line) room (rw (length-take 4112 line) (omega arith))))
+    (λ (short : length line < lineRoom). ap (λ l. resultOf l t) (take-all lineRoom line (omega arith)))
+    (λ (long : lineRoom ≤ length line).
+    resultOf-read (take lineRoom line) t TooLong (sym (readLine-too-long (take lineRoom line) room (rw (length-take lineRoom line) (omega arith))))
     ∙ sym (resultOf-read line t TooLong (sym (readLine-too-long line room (omega arith)))))
-    (lt-or-ge (length line) 4112)
+    (lt-or-ge (length line) lineRoom)
 
 -- The room that its text takes
 

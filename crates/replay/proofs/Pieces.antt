@@ -18,7 +18,7 @@ use Rattle.report.specs.Text.{resultText, totalText}
 use Rattle.report.proofs.Text.{length-totalText≤52}
 use Rattle.replay.specs.Printed.{newline, linesFrom, linesOf, resultOf, Run, passes, afterLine, afterLines, printed}
 use Rattle.replay.specs.Feed.{Memory, memory, withByte, withLine, afterPiece, atEnd, withTotal}
-use Rattle.replay.specs.Written.{atStart, resultRoom, totalRoom, toWrite, emptied, written, joined, HasRoom, WritesPrinted, programTable, PiecesUpTo, ProgramWritesPrinted}
+use Rattle.replay.specs.Written.{atStart, lineRoom, resultRoom, totalRoom, toWrite, emptied, written, joined, HasRoom, WritesPrinted, programTable, PiecesUpTo, ProgramWritesPrinted}
 use Rattle.replay.specs.declared.Progress.{Progress}
 use Rattle.replay.proofs.Line.{withByte-room, withByte-full, afterPiece-none, afterPiece-at-newline, afterPiece-at-other}
 use Rattle.replay.proofs.Answer.{resultOf-cut, result-short}
@@ -28,10 +28,10 @@ use Rattle.replay.proofs.Answer.{resultOf-cut, result-short}
 -- the memory is where the run is after some lines and the beginning of the next one, and what it has to write follows what is
 -- done; the output has n bytes
 record Follows (n : ℕ) (done : List ℕ) (m : Memory) (r : Run) (begun : List ℕ) : Type 0 where
-  size : length (m .line) ≡ 4112
+  size : length (m .line) ≡ lineRoom
   room : length (m .out) ≡ n
-  kept : m .progress .kept ≡ min 4112 (length begun)
-  line : take (m .progress .kept) (m .line) ≡ take 4112 begun
+  kept : m .progress .kept ≡ min lineRoom (length begun)
+  line : take (m .progress .kept) (m .line) ≡ take lineRoom begun
   used : m .progress .used ≤ n
   text : done ++ toWrite m ≡ r .text
   table : m .table ≡ r .table
@@ -43,7 +43,7 @@ abbrev fresh : List ℕ → Run
 fresh t = record { table = t; text = []; passed = 0; lines = 0 }
 
 -- nothing is read, and nothing is to be written
-follows-start : (t l o : List ℕ) (p : Progress) → p ≡ atStart → length l ≡ 4112 → Follows (length o) [] (memory t l o p) (fresh t) []
+follows-start : (t l o : List ℕ) (p : Progress) → p ≡ atStart → length l ≡ lineRoom → Follows (length o) [] (memory t l o p) (fresh t) []
 follows-start t l o p start size =
     rw start
     record {
@@ -76,15 +76,15 @@ follows-emptied n done m r begun f =
 -- A byte of a line
 
 -- a buffer that has room holds the whole line so far
-byte-kept : (n : ℕ) (done : List ℕ) (m : Memory) (r : Run) (begun : List ℕ) (b : ℕ) → Follows n done m r begun → length begun < 4112 → Follows n done (withByte m b) r (begun ++ (b ∷ []))
+byte-kept : (n : ℕ) (done : List ℕ) (m : Memory) (r : Run) (begun : List ℕ) (b : ℕ) → Follows n done m r begun → length begun < lineRoom → Follows n done (withByte m b) r (begun ++ (b ∷ []))
 byte-kept n done m r begun b f short =
     let k = m .progress .kept in
     let inside : k < length (m .line) = omega arith in
     let longer : length (begun ++ (b ∷ [])) ≡ length begun + 1 = length-append begun (b ∷ []) in
-    let line : take (k + 1) (set (m .line) k b) ≡ take 4112 (begun ++ (b ∷ [])) =
+    let line : take (k + 1) (set (m .line) k b) ≡ take lineRoom (begun ++ (b ∷ [])) =
     rw add-one (take-suc-set (m .line) k b inside)
-    ∙ ap (λ l. l ++ (b ∷ [])) (f .line ∙ take-all 4112 begun (omega arith))
-    ∙ sym (take-all 4112 (begun ++ (b ∷ [])) (omega arith)) in
+    ∙ ap (λ l. l ++ (b ∷ [])) (f .line ∙ take-all lineRoom begun (omega arith))
+    ∙ sym (take-all lineRoom (begun ++ (b ∷ [])) (omega arith)) in
     rw (withByte-room m b inside)
     record {
       size = simp length-set (f .size);
@@ -99,7 +99,7 @@ byte-kept n done m r begun b f short =
     }
 
 -- one that is full holds its first 4,112 bytes
-byte-dropped : (n : ℕ) (done : List ℕ) (m : Memory) (r : Run) (begun : List ℕ) (b : ℕ) → Follows n done m r begun → 4112 ≤ length begun → Follows n done (withByte m b) r (begun ++ (b ∷ []))
+byte-dropped : (n : ℕ) (done : List ℕ) (m : Memory) (r : Run) (begun : List ℕ) (b : ℕ) → Follows n done m r begun → lineRoom ≤ length begun → Follows n done (withByte m b) r (begun ++ (b ∷ []))
 byte-dropped n done m r begun b f long =
     let longer : length (begun ++ (b ∷ [])) ≡ length begun + 1 = length-append begun (b ∷ []) in
     rw (withByte-full m b (omega arith))
@@ -107,7 +107,7 @@ byte-dropped n done m r begun b f long =
       size = f .size;
       room = f .room;
       kept = omega arith;
-      line = f .line ∙ sym (take-append-le 4112 begun (b ∷ []) long);
+      line = f .line ∙ sym (take-append-le lineRoom begun (b ∷ []) long);
       used = f .used;
       text = f .text;
       table = f .table;
@@ -118,7 +118,7 @@ byte-dropped n done m r begun b f long =
 -- so either way the memory goes on beside the run
 follows-byte : (n : ℕ) (done : List ℕ) (m : Memory) (r : Run) (begun : List ℕ) (b : ℕ) → Follows n done m r begun → Follows n done (withByte m b) r (begun ++ (b ∷ []))
 follows-byte n done m r begun b f =
-    ⊎-elim (byte-kept n done m r begun b f) (byte-dropped n done m r begun b f) (lt-or-ge (length begun) 4112)
+    ⊎-elim (byte-kept n done m r begun b f) (byte-dropped n done m r begun b f) (lt-or-ge (length begun) lineRoom)
 
 -- The end of a line
 
