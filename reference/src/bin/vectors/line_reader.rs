@@ -104,6 +104,7 @@ pub fn vectors() -> Vec<Vector> {
     spaces(&mut table);
     clock_digits(&mut table);
     packet_digits(&mut table);
+    middle_digits(&mut table);
     last_digits(&mut table);
     clocks(&mut table);
     short_lines(&mut table);
@@ -261,6 +262,34 @@ fn packet_digits(table: &mut Table) {
                 expected,
             );
         }
+    }
+}
+
+/// Offsets 19 to 144, and beside each multiple of 128 up to 4,096: a byte that
+/// is no digit, and a digit other than those around it.
+fn middle_digits(table: &mut Table) {
+    let line = line_of_zeros(4096);
+    let near = (2..=32).flat_map(|block| [128 * block - 1, 128 * block, 128 * block + 1]);
+    let bad = [b'g', b'/', b':', b'`', b'F', b' ', 0x00, 0xff];
+    for (turn, offset) in (19..=144).chain(near).enumerate() {
+        let byte = bad[turn % bad.len()];
+        table.add(
+            format!("offset {offset} byte {byte:02x}"),
+            put(&line, offset, byte),
+            3,
+            refused(22, offset, 3),
+        );
+    }
+    // Digit 5 at an even offset is the second of its pair, as offset 15 is a first.
+    for (offset, pair) in [(32, "05"), (33, "50"), (2046, "05"), (2047, "50"), (4096, "05")] {
+        let before = "00".repeat((offset - 15) / 2);
+        let after = "00".repeat(2047 - (offset - 15) / 2);
+        table.add(
+            format!("offset {offset} byte 35"),
+            put(&line, offset, b'5'),
+            2048,
+            format!("0 1 1250999896491 2048 0 {before}{pair}{after}"),
+        );
     }
 }
 
