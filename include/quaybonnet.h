@@ -1,4 +1,11 @@
-/* Quaybonnet, a TCP packet filter. The README has the meaning of each answer. */
+/*
+ * Quaybonnet, a TCP packet filter.
+ *
+ * Of every call: pointers must be valid for as many bytes as the lengths say and must not overlap, and none may be NULL, not even with
+ * length 0. Bytes need no alignment; the numbers that clock, length and offset point to are aligned as C has them. While a call runs,
+ * nobody else may write what it is lent: no other thread, and no device. The library keeps no state of its own, so calls that are lent
+ * different memory may run at the same time. No call allocates, blocks or fails in another way than by its number.
+ */
 #ifndef QUAYBONNET_H
 #define QUAYBONNET_H
 
@@ -18,11 +25,25 @@ extern "C" {
 /*
  * Asks the filter about one packet: the side that it came from (0 or 1), a clock in ms, the table, the packet from its IPv4 header on.
  * Returns answer * 65536 + place. On answer 0 the packet may pass, and the header clock and the entry at that place have been written;
- * on every other it is to be dropped, and no byte of the table has changed. The packet is only read.
- *
- * table and packet must point to as many bytes as their lengths say and not overlap; neither may be NULL, not even with length 0.
- * Any side, clock, lengths and bytes are answered; a side over 255 is cut to 8 bits by C before the call. Calls on one table must not run
- * at the same time.
+ * on every other it is to be dropped, the place is QB_NO_PLACE, and no byte of the table has changed. The packet is only read.
+ * Any side, clock, lengths and bytes are answered; a side over 255 is cut to 8 bits by C before the call. The answer is the first of these
+ * that applies:
+ *    1  side is not 0 or 1
+ *    2  clock is 2^48 ms or more
+ *    3  table_len is not QB_TABLE_LENGTH(n) with n from 1 to 512
+ *    4  the table is unsound: no filter has left it so
+ *    5  there is no whole IPv4 header, or its lengths do not fit the packet
+ *    6  the IPv4 header's checksum is wrong
+ *    7  it is a fragment
+ *    8  it is not TCP
+ *    9  there is no whole TCP header within the packet
+ *   10  its flags are those of no good segment, or it is a SYN with payload
+ *   11  no live connection matches, and it is not a SYN without ACK from side 0
+ *   12  it would open a connection, and no place is free or expired
+ *   13  the connection's SYN is not answered yet, and this is neither the same SYN nor an answer to it
+ *   14  the sequence numbers are out of range
+ *   15  the acknowledgement number is out of range
+ *    0  otherwise: passed
  */
 uint32_t qb_filter(uint8_t side, uint64_t clock, uint8_t *table, size_t table_len, const uint8_t *packet, size_t packet_len);
 
@@ -42,9 +63,7 @@ static inline uint32_t qb_place(uint32_t result) { return result % 65536; }
  *    0  otherwise: *side, *clock and *length are the line's, the packet is the first *length bytes of packet, and *offset is 0
  * A refusal (21, 22, 23) writes no byte of packet and stores side, clock and length 0, and offset 0 but for 22. Bytes of packet past the
  * length stay as they were. The four numbers are always stored; what they were before does not matter.
- *
- * line and packet must point to line_len and room bytes, side, clock, length and offset to one number each. No two may overlap; none may be
- * NULL, not even with line_len or room 0. Any lengths and bytes are answered.
+ * Any lengths and bytes are answered.
  */
 uint32_t qb_read_line(const uint8_t *line, size_t line_len, uint8_t *packet, size_t room, uint8_t *side, uint64_t *clock, size_t *length,
                       size_t *offset);
@@ -59,9 +78,7 @@ uint32_t qb_read_line(const uint8_t *line, size_t line_len, uint8_t *packet, siz
  *    0  otherwise: the line is the first *length characters of line
  * A refusal (1, 2, 24, 23) writes no byte of line and stores length 0. Bytes of line past the length stay as they were. The length is always
  * stored; what it was before does not matter.
- *
- * packet and line must point to packet_len and room bytes, length to one number. No two may overlap; none may be NULL, not even with
- * packet_len or room 0. Any side, clock, lengths and bytes are answered.
+ * Any side, clock, lengths and bytes are answered.
  */
 uint32_t qb_write_line(uint8_t side, uint64_t clock, const uint8_t *packet, size_t packet_len, uint8_t *line, size_t room, size_t *length);
 

@@ -21,8 +21,8 @@ loop-holds c = let e = c .start .ensures in (omega (arith, ap (λ p. p .kept) e)
 sub-turns : tie.Need-sub-turns Inv-loop μ-loop
 sub-turns c = search needs
 
-read-full-requires : tie.Need-read-full-requires Inv-loop μ-loop
-read-full-requires c κs = search needs
+read-piece-requires : tie.Need-read-piece-requires Inv-loop μ-loop
+read-piece-requires c κs = search needs
 
 finish-requires : tie.Need-finish-requires Inv-loop μ-loop
 finish-requires c κs = search needs
@@ -69,7 +69,7 @@ run-spec =
     start-requires
     loop-holds
     sub-turns
-    read-full-requires
+    read-piece-requires
     finish-requires
     returns
     sub-feed
