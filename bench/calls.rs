@@ -142,7 +142,8 @@ fn round<F: Filter>(case: &Case, copies: &mut Copies) {
     }
 }
 
-/// The time of so many rounds, each copy of the table restored before: once, or before every round if a call opens a connection.
+/// The time of so many rounds, each copy of the table restored before: once, or before every round if a call opens a connection. A
+/// table of 512 places has one copy, so an opening there is timed by itself, with the reading of the clock, for both alike.
 fn batch<F: Filter>(case: &Case, copies: &mut Copies, rounds: usize) -> Duration {
     let (parts, rounds) = if case.opens { (rounds, 1) } else { (1, rounds) };
     let mut total = Duration::ZERO;
