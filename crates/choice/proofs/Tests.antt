@@ -16,6 +16,7 @@ true-or-false false = inr refl
 pub lt-or-ge : (a b : ℕ) → (a < b) ⊎ (b ≤ a)
 lt-or-ge a b = ⊎-elim (λ t. inl (ltb-true a b t)) (λ t. inr (ltb-false a b t)) (true-or-false (a <ᵇ b))
 
+-- two different constructors are never equal: where a hypothesis says that they are, `cc` proves this path from it
 pub false-true : {A : Type 0} → false ≡ true → A
 false-true e = let z : _≡_ {A = ℕ} 0 1 = cc in absurd (omega arith)
 

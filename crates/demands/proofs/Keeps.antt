@@ -17,7 +17,7 @@ use Rattle.filter.proofs.Rows.{sound-table-clock}
 use Rattle.honest.specs.Rows as rows
 use Rattle.honest.specs.Filter.{connections, SoundTable}
 use Rattle.honest.specs.Typed as connection
-use Rattle.honest.specs.Machine.{Reading, refused, asks, KeepsTo}
+use Rattle.honest.specs.Machine.{Reading, refused, asks, apart, KeepsTo}
 use Rattle.honest.specs.IPv4.{IPv4}
 use Rattle.honest.proofs.SoundKept.{filter-sound}
 use Rattle.demands.specs.Bytes.{BytesCall, SoundBytes, viewEntry, viewOf, readingOf, bytesMachine}
@@ -26,7 +26,7 @@ use Rattle.demands.proofs.View.{view-after}
 use Rattle.demands.proofs.Sound.{sound-view, typed-view}
 use Rattle.demands.proofs.SoundAfter.{sound-after}
 use Rattle.demands.proofs.Typed.{typed-entry}
-use Rattle.demands.proofs.Reading.{asked-side, asked-clock, asks-placeable, reading-refused}
+use Rattle.demands.proofs.Reading.{never-apart, asked-side, asked-clock, asks-placeable, reading-refused}
 use Rattle.demands.proofs.Outcome.{EndpointsFrom, Same, refuses, passes, call-same, outcome-blocked-keeps}
 use Rattle.demands.proofs.Endpoints.{asks-fits, left-fits}
 
@@ -103,6 +103,7 @@ sound-kept t q s = go (readingOf q) refl
     go : (r : Reading (rows.Ask IPv4)) → readingOf q ≡ r → SoundBytes (tableAfter t (outcomeOf (q .side) (q .clock) t (q .packet)))
     go (refused n p) is = rw (reading-refused q n p is .outcome t s) s
     go (asks a) is = same-sound t q a s is _ (call-same t q a s is)
+    go apart is = absurd (never-apart q is)
 
 pub bytes-keep : KeepsTo IPv4 bytesMachine SoundBytes
 bytes-keep = record {
@@ -113,7 +114,8 @@ bytes-keep = record {
   placed = λ t q a s is. same-place t a _ (call-same t q a s is);
   left = λ t q a s is. same-left t q a s is _ (call-same t q a s is);
   well-formed = λ q a is. asks-placeable q a is;
-  blocked-keeps = λ t q blocked. outcome-blocked-keeps t (outcomeOf (q .side) (q .clock) t (q .packet)) blocked;
+  blocked-keeps = λ t q blocked. ap viewOf (outcome-blocked-keeps t (outcomeOf (q .side) (q .clock) t (q .packet)) blocked);
+  apart-keeps = λ t q s is. absurd (never-apart q is);
   sound-table = λ t s. sound-view s;
   sound-kept = λ t q s. sound-kept t q s;
 }

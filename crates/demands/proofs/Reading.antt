@@ -7,8 +7,8 @@ use mathlib.Core.List.{List}
 use native.Mathlib.Omega.{arith}
 use borrow.Author.Tests.{leb-true, leb-false, not-false}
 use Rattle.choice.specs.Choice.{if_then_else_, _≤ᵇ_}
-use Rattle.choice.proofs.Choice.{if-true, if-false}
-use Rattle.choice.proofs.Tests.{true-or-false}
+use Rattle.choice.proofs.Choice.{if-true, if-false, if-either}
+use Rattle.choice.proofs.Tests.{true-or-false, false-true}
 use Rattle.segment.specs.Readable.{Readable}
 use Rattle.segment.specs.declared.Segment.{Segment}
 use Rattle.packet.specs.Read.{readPacket, causeNumber}
@@ -22,7 +22,7 @@ use Rattle.history.proofs.Places.{readable-placeable}
 use Rattle.filter.specs.Call.{nowhere, clockUsed, onPacket, outcomeOf}
 use Rattle.filter.specs.Outcome.{Blocked}
 use Rattle.honest.specs.Rows as rows
-use Rattle.honest.specs.Machine.{Reading, refused, asks}
+use Rattle.honest.specs.Machine.{Reading, refused, asks, apart}
 use Rattle.honest.specs.IPv4.{IPv4}
 use Rattle.demands.specs.Bytes.{BytesCall, SoundBytes, byPacket, readingOf}
 use Rattle.demands.proofs.Search.{askOf}
@@ -34,6 +34,17 @@ pub outcome-read : (side clock : ℕ) (t packet : List ℕ) → not (side ≤ᵇ
 unfolding outcomeOf
 outcome-read side clock t packet side-fine clock-fine s =
     if-false _ _ _ side-fine ∙ if-false _ _ _ clock-fine ∙ if-false _ _ _ (ap not (s .legal)) ∙ if-false _ _ _ (ap not (s .sound))
+
+-- no call concerns another part of the table: the whole is viewed
+pub never-apart : (q : BytesCall) → readingOf q ≡ apart → ⊥
+unfolding readingOf
+never-apart q =
+    if-either (λ r. r ≡ apart → ⊥) _ _ _ (λ is. false-true cc)
+    (if-either (λ r. r ≡ apart → ⊥) _ _ _ (λ is. false-true cc) (by-read (readPacket (q .packet))))
+  where
+    by-read : (r : PacketRead) → byPacket r (q .side) (q .clock) ≡ apart → ⊥
+    by-read (Refused cause) is = false-true cc
+    by-read (Tcp f g) is = false-true cc
 
 -- A call that asks
 
@@ -48,7 +59,7 @@ pub record Asked (q : BytesCall) (a : rows.Ask IPv4) : Type 0 where
 
 past-refused : {a : rows.Ask IPv4} {rest : Reading (rows.Ask IPv4)} (t : Bool) (n p : ℕ) → (if t then refused n p else rest) ≡ asks a → (t ≡ false) × (rest ≡ asks a)
 unfolding if_then_else_
-past-refused true n p is = let z : _≡_ {A = ℕ} 0 1 = cc in absurd (omega arith)
+past-refused true n p is = false-true cc
 past-refused false n p is = (refl, is)
 
 pub reading-asks : (q : BytesCall) (a : rows.Ask IPv4) → readingOf q ≡ asks a → Asked q a
@@ -56,7 +67,7 @@ unfolding readingOf
 reading-asks q a is = let row1 = past-refused _ _ _ is in let row2 = past-refused _ _ _ (row1 .1) in go (row1 .0) (row2 .0) _ refl (row2 .1)
   where
     go : not (q .side ≤ᵇ 1) ≡ false → 2 ^ 48 ≤ᵇ q .clock ≡ false → (r : PacketRead) → readPacket (q .packet) ≡ r → byPacket r (q .side) (q .clock) ≡ asks a → Asked q a
-    go side-fine clock-fine (Refused cause) read asked = let z : _≡_ {A = ℕ} 0 1 = cc in absurd (omega arith)
+    go side-fine clock-fine (Refused cause) read asked = false-true cc
     go side-fine clock-fine (Tcp f g) read asked = record { flow = f; segment = g; packet-read = read; is = cc; side-fine = side-fine; clock-fine = clock-fine }
 
 module _ (q : BytesCall) (a : rows.Ask IPv4) (is : readingOf q ≡ asks a) where
@@ -105,7 +116,7 @@ module _ (q : BytesCall) (n p : ℕ) where
   refused-packet : not (q .side ≤ᵇ 1) ≡ false → 2 ^ 48 ≤ᵇ q .clock ≡ false → (r : PacketRead) → readPacket (q .packet) ≡ r → byPacket r (q .side) (q .clock) ≡ refused n p → Refusal q n p
   refused-packet side-fine clock-fine (Refused cause) read is =
       refusal (causeNumber cause) (omega (arith, cause-5-to-10 cause .0)) (λ t s. outcome-read _ _ t _ side-fine clock-fine s ∙ ap (λ r. onPacket r t (clockUsed t (q .clock)) (q .side)) read) is
-  refused-packet side-fine clock-fine (Tcp f g) read is = let z : _≡_ {A = ℕ} 0 1 = cc in absurd (omega arith)
+  refused-packet side-fine clock-fine (Tcp f g) read is = false-true cc
 
   pub reading-refused : readingOf q ≡ refused n p → Refusal q n p
   unfolding readingOf

@@ -31,15 +31,15 @@ use Rattle.demands.proofs.Demands.{demand3-on-bytes}
 
 -- From an all-zero table, by the fresh one that it is
 
-module _ (n : ℕ) (some : 1 ≤ n) (most : n ≤ 512) (P : Pair IPv4) {L : List (Event BytesCall)} {N : List (Event (ListCall IPv4))} (carries : Carries bytesMachine L N) where
+module _ (n : ℕ) (some : 1 ≤ n) (most : n ≤ 512) {L : List (Event BytesCall)} {N : List (Event (ListCall IPv4))} (carries : Carries bytesMachine L N) where
   sound : SoundBytes (freshBytes n)
   sound = fresh-bytes-sound n some most
 
-  legal-on-bytes : Legal (listMachine IPv4) (fresh IPv4 connections n) P N → Legal bytesMachine (freshBytes n) P L
-  legal-on-bytes legal = legal-carried bytesMachine SoundBytes bytes-keep (freshBytes n) sound P L N carries (rw (fresh-bytes-view n) legal)
+  legal-on-bytes : (P : Pair IPv4) → Legal (listMachine IPv4) (fresh IPv4 connections n) P N → Legal bytesMachine (freshBytes n) P L
+  legal-on-bytes P legal = legal-carried bytesMachine SoundBytes bytes-keep (freshBytes n) sound P L N carries (rw (fresh-bytes-view n) legal)
 
-  shown-on-bytes : shownBy bytesMachine (freshBytes n) P L ≡ shownBy (listMachine IPv4) (fresh IPv4 connections n) P N
-  shown-on-bytes = shown-carried bytesMachine SoundBytes bytes-keep (freshBytes n) sound P L N carries ∙ ap (λ t. shownBy (listMachine IPv4) t P N) (fresh-bytes-view n)
+  shown-on-bytes : shownBy bytesMachine (freshBytes n) L ≡ shownBy (listMachine IPv4) (fresh IPv4 connections n) N
+  shown-on-bytes = shown-carried bytesMachine SoundBytes bytes-keep (freshBytes n) sound L N carries ∙ ap (λ t. shownBy (listMachine IPv4) t N) (fresh-bytes-view n)
 
 -- The witness
 
@@ -53,15 +53,15 @@ bytes-witness-refuses = (all-read .1, all-read .2)
 
 witness-carried : Carries bytesMachine bytesWitness witness
 witness-carried =
-    refused-carries bytesMachine 27 fragment 7 65535 (bytes-witness-refuses .1)
-    (refused-carries bytesMachine 42 wrongSum 6 65535 (bytes-witness-refuses .0) (made-carries bytesMachine (λ b. bytesCall (b .0)) witness (all-read .0)))
+    refused-carries bytesMachine 38 fragment 7 65535 (bytes-witness-refuses .1)
+    (refused-carries bytesMachine 53 wrongSum 6 65535 (bytes-witness-refuses .0) (made-carries bytesMachine (λ b. bytesCall (b .0)) witness (all-read .0)))
 
 pub bytes-witness-legal : Legal bytesMachine (freshBytes 64) ends bytesWitness
-bytes-witness-legal = legal-on-bytes 64 (omega arith) (omega arith) ends witness-carried witness-legal
+bytes-witness-legal = legal-on-bytes 64 (omega arith) (omega arith) witness-carried ends witness-legal
 
-pub bytes-witness-passes : NeverBlocked bytesMachine (freshBytes 64) ends bytesWitness
+pub bytes-witness-passes : NeverBlocked bytesMachine (freshBytes 64) bytesWitness
 bytes-witness-passes = demand3-on-bytes 64 (omega arith) (omega arith) ends (omega arith) bytesWitness bytes-witness-legal
 
 -- of the calls that ask something and are no arrivals, the two openings pass and the two others are blocked; every FIN has passed
-pub bytes-witness-shows : shownBy bytesMachine (freshBytes 64) ends bytesWitness ≡ record { others = 0 ∷ 11 ∷ 14 ∷ 0 ∷ []; place = 1; stage = 5 }
-bytes-witness-shows = shown-on-bytes 64 (omega arith) (omega arith) ends witness-carried ∙ witness-shows
+pub bytes-witness-shows : shownBy bytesMachine (freshBytes 64) bytesWitness ≡ record { others = 0 ∷ 11 ∷ 14 ∷ 0 ∷ []; place = 1; stage = 5 }
+bytes-witness-shows = shown-on-bytes 64 (omega arith) (omega arith) witness-carried ∙ witness-shows

@@ -50,7 +50,7 @@ Demand2OnBytes =
 abbrev pub Demand3OnBytes : Type 0
 Demand3OnBytes =
     (n : ℕ) → 1 ≤ n → n ≤ 512 → (P : Pair IPv4) → P .side ≤ 1 → (L : List (Event BytesCall)) →
-    Legal bytesMachine (freshBytes n) P L → NeverBlocked bytesMachine (freshBytes n) P L
+    Legal bytesMachine (freshBytes n) P L → NeverBlocked bytesMachine (freshBytes n) L
 
 abbrev pub Demand3FromSound : Type 0
 Demand3FromSound = Demand3 bytesMachine SoundBytes

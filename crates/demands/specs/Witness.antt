@@ -30,6 +30,6 @@ wrongSum = spoilt 8 1 63 (bytesCall (brings 3900 (o 3) .0))
 abbrev pub fragment : BytesCall
 fragment = spoilt 6 3 0x200020 (bytesCall (brings 5900 (o 5) .0))
 
--- each right before the arrival of the packet that it was made from, which is 27th and 42nd from the end
+-- each right before the arrival of the packet that it was made from, which is 38th and 53rd from the end
 abbrev pub bytesWitness : List (Event BytesCall)
-bytesWitness = withOther 27 fragment (withOther 42 wrongSum madeWitness)
+bytesWitness = withOther 38 fragment (withOther 53 wrongSum madeWitness)

@@ -22,7 +22,7 @@ use Rattle.connection.specs.declared.End.{End}
 use Rattle.connection.specs.declared.Verdict.the-variants.{Pass, NotAllowed, SequenceMissed, AckMissed}
 use Rattle.history.specs.Numbers.{Numbers, onRing, boundsI-II, boundsIII-IV, sentTo, grantedTo, Spans}
 use Rattle.history.specs.History.{LineSegment, endBy, edgeBy, windowBy, numbersOf, onWire, stageOf, finsOf, sameSynOnLine, replyOnLine, judgeUnanswered, judge, Holds, Formed}
-use Rattle.history.proofs.Step.{ack-near, sent-line, granted-line, sentTo-spans, grantedTo-spans}
+use Rattle.history.proofs.Step.{ack-near, ackRange-small, sent-line, granted-line, sentTo-spans, grantedTo-spans}
 use Rattle.history.proofs.Verdict.{Unanswered, Answered, spans}
 
 -- The numbers with one more segment
@@ -102,9 +102,9 @@ stageAfter≥2 stage fins i f =
 pub ranges-met : (x a y : Bool) → (if not x then SequenceMissed else if a && not y then AckMissed else Pass) ≡ Pass → (x ≡ true) × (a ≡ true → y ≡ true)
 unfolding if_then_else_
 ranges-met true true true e = (refl, λ t. refl)
-ranges-met true true false e = let z : _≡_ {A = ℕ} 0 1 = cc in absurd (omega arith)
+ranges-met true true false e = false-true cc
 ranges-met true false y e = (refl, λ t. false-true t)
-ranges-met false a y e = let z : _≡_ {A = ℕ} 0 1 = cc in absurd (omega arith)
+ranges-met false a y e = false-true cc
 
 module _ (c : Connection) (h : List LineSegment) (holds : Holds c h) (p : LineSegment) (side : p .from < 2) (formed : Formed p) (no-reset : rst (p .flags) ≡ 1 → ⊥) (pass : judge h p ≡ Pass) where
   module _ (open-h : Answered h) where
@@ -146,7 +146,8 @@ module _ (c : Connection) (h : List LineSegment) (holds : Holds c h) (p : LineSe
     acked-after : ack (p .flags) ≡ 1 → granted (onRing (numbersOf (1 - p .from) h)) (onWire p) ≡ onRing (numbersOf (1 - p .from) (p ∷ h))
     acked-after acks =
         let b = acked-bounds acks in
-        granted-line (numbersOf (1 - p .from) h) T p (ack-near (numbersOf (1 - p .from) h) (p .acked) (b .0) (b .1)) (b .0) (formed .window-fits)
+        let near = ack-near ackRange ackRange-small (numbersOf (1 - p .from) h) (p .acked) (b .0) (b .1) in
+        granted-line (numbersOf (1 - p .from) h) T p near (b .0) (formed .window-fits)
         ∙ ap onRing (sym (numbers-acked h p no-reset (1 - p .from) apart acks))
 
     unacked-after : (ack (p .flags) ≡ 1 → ⊥) → onRing (numbersOf (1 - p .from) h) ≡ onRing (numbersOf (1 - p .from) (p ∷ h))
@@ -220,7 +221,7 @@ module _ (h : List LineSegment) (p : LineSegment) (no-reset : rst (p .flags) ≡
 pub allowed : (t : Bool) → (if t then Pass else NotAllowed) ≡ Pass → t ≡ true
 unfolding if_then_else_
 allowed true e = refl
-allowed false e = let z : _≡_ {A = ℕ} 0 1 = cc in absurd (omega arith)
+allowed false e = false-true cc
 
 -- of two tests, the opener's and the answerer's, the one of the sender's
 pub of-opener : (i : ℕ) (x y : Bool) → i ≡ 0 → (((i =ᵇ 0) && x) || ((i =ᵇ 1) && y)) ≡ true → x ≡ true
@@ -319,7 +320,9 @@ module _ (c : Connection) (h : List LineSegment) (holds : Holds c h) (p : LineSe
 
     opener-raised : granted (onRing (numbersOf 0 h)) (onWire p) ≡ onRing (numbersOf 0 (p ∷ h))
     opener-raised =
-        granted-line (numbersOf 0 h) (unanswered .opener) p (ack-near (numbersOf 0 h) (p .acked) (omega (arith, reply .0)) (omega (arith, reply .0))) (omega (arith, reply .0)) (formed .window-fits)
+        let all : p .acked ≤ numbersOf 0 h .end = omega (arith, reply .0) in
+        let near = ack-near ackRange ackRange-small (numbersOf 0 h) (p .acked) all (omega (arith, reply .0)) in
+        granted-line (numbersOf 0 h) (unanswered .opener) p near all (formed .window-fits)
         ∙ ap onRing (sym (numbers-acked h p no-reset 0 not-opener acks))
 
     opener-spans : Spans (numbersOf 0 (p ∷ h))

@@ -9,7 +9,7 @@ use borrow.Author.Tests.{leb-true, eq-eqb}
 use Rattle.choice.specs.Choice.{if_then_else_, _≤ᵇ_, _=ᵇ_}
 use Rattle.choice.proofs.Choice.{if-=-not}
 use Rattle.choice.proofs.Tests.{false-true, &&-true}
-use Rattle.serial.specs.Ring.{wrap}
+use Rattle.serial.specs.Ring.{wrap, largestRange}
 use Rattle.serial.proofs.Ring.{nearest-wrap}
 use Rattle.segment.specs.Flags.{ack}
 use Rattle.segment.specs.Readable.{Readable}
@@ -20,9 +20,9 @@ use Rattle.connection.specs.declared.Connection.{Connection}
 use Rattle.connection.specs.declared.Verdict.the-variants.{Pass, SequenceMissed, AckMissed}
 use Rattle.history.specs.Numbers.{Numbers, boundsI-II, boundsIII-IV}
 use Rattle.history.specs.History.{LineSegment, numbersOf, stageOf, standsBy, judge, Holds, Placeable}
-use Rattle.history.proofs.Step.{Near, start-near, ack-near}
+use Rattle.history.proofs.Step.{Near, start-near, ack-near, ackRange-small}
 use Rattle.history.proofs.Verdict.{Answered, spans}
-use Rattle.history.specs.Demand2.{Presented, Legal, connectionAfter, historyAfter, openingHistory, NoPlace, Uniqueness}
+use Rattle.history.specs.Demand2.{Presented, Legal, connectionAfter, historyAfter, openingHistory, OnePlace, Uniqueness}
 use Rattle.history.proofs.Demand2.{stands-nearest, wrap-stands, Reached, unanswered, answered, judged, after-all, holds-first, reached-first}
 
 pub readable-placeable : (g : Segment) → Readable g → Placeable g
@@ -38,10 +38,12 @@ module _ (h : List LineSegment) (both-heard : Answered h) (i : ℕ) (side : i < 
       near-only (numbersOf i h .end) S turned
       (start-near (numbersOf i h) (numbersOf (1 - i) h) S n (spans h both-heard i side) (spans h both-heard (1 - i) (omega arith)) (leb-true _ _ (b .1)) (leb-true _ _ (b .0)))
 
-  pub ack-only : (A : ℕ) → boundsIII-IV ackRange (numbersOf i h) A ≡ true → A ≡ standsBy (numbersOf i h .end) (wrap A)
-  ack-only A met =
-      let b = &&-true (A ≤ᵇ numbersOf i h .end) (numbersOf i h .end ≤ᵇ A + ackRange) met in
-      near-only (numbersOf i h .end) A turned (ack-near (numbersOf i h) A (leb-true _ _ (b .0)) (leb-true _ _ (b .1)))
+  pub ack-only :
+      (range : ℕ) → range ≤ largestRange →
+      (A : ℕ) → boundsIII-IV range (numbersOf i h) A ≡ true → A ≡ standsBy (numbersOf i h .end) (wrap A)
+  ack-only range small A met =
+      let b = &&-true (A ≤ᵇ numbersOf i h .end) (numbersOf i h .end ≤ᵇ A + range) met in
+      near-only (numbersOf i h .end) A turned (ack-near range small (numbersOf i h) A (leb-true _ _ (b .0)) (leb-true _ _ (b .1)))
 
 -- What the three answers say of the tests x (I and II), a (ACK), y (III and IV)
 
@@ -51,14 +53,14 @@ not-true false none = refl
 
 missed-14 : (x a y : Bool) → ((if not x then SequenceMissed else if a && not y then AckMissed else Pass) ≡ SequenceMissed) ↔ (x ≡ false)
 unfolding if_then_else_
-missed-14 true true true = ((λ e. let z : _≡_ {A = ℕ} 0 1 = cc in absurd (omega arith)), (λ e. false-true (sym e)))
-missed-14 true true false = ((λ e. let z : _≡_ {A = ℕ} 0 1 = cc in absurd (omega arith)), (λ e. false-true (sym e)))
-missed-14 true false y = ((λ e. let z : _≡_ {A = ℕ} 0 1 = cc in absurd (omega arith)), (λ e. false-true (sym e)))
+missed-14 true true true = ((λ e. false-true cc), (λ e. false-true (sym e)))
+missed-14 true true false = ((λ e. false-true cc), (λ e. false-true (sym e)))
+missed-14 true false y = ((λ e. false-true cc), (λ e. false-true (sym e)))
 missed-14 false a y = ((λ e. refl), (λ e. refl))
 
 missed-15 : (y : Bool) → ((if not true then SequenceMissed else if true && not y then AckMissed else Pass) ≡ AckMissed) ↔ (y ≡ false)
 unfolding if_then_else_
-missed-15 true = ((λ e. let z : _≡_ {A = ℕ} 0 1 = cc in absurd (omega arith)), (λ e. false-true (sym e)))
+missed-15 true = ((λ e. false-true cc), (λ e. false-true (sym e)))
 missed-15 false = ((λ e. refl), (λ e. refl))
 
 -- a test at the one place where it can hold fails exactly where it holds nowhere
@@ -97,7 +99,9 @@ module _ (c : Connection) (h : List LineSegment) (holds : Holds c h) (both-heard
   start-is S at-s met = start-only h both-heard i side (turned i side) S (g .octets .0) met ∙ ap (standsBy (numbersOf i h .end)) at-s
 
   acked-is : (A : ℕ) → wrap A ≡ g .ack .0 → boundsIII-IV ackRange T A ≡ true → A ≡ acked
-  acked-is A at-a met = ack-only h both-heard (1 - i) (omega arith) (turned (1 - i) (omega arith)) A met ∙ ap (standsBy (numbersOf (1 - i) h .end)) at-a
+  acked-is A at-a met =
+      ack-only h both-heard (1 - i) (omega arith) (turned (1 - i) (omega arith)) ackRange ackRange-small A met
+      ∙ ap (standsBy (numbersOf (1 - i) h .end)) at-a
 
   -- 14 exactly where no place with the segment's sequence number meets I and II
   pub no-place-14 : (verdictOn c i g ≡ SequenceMissed) ↔ ((S : ℕ) → wrap S ≡ g .seq .0 → boundsI-II (numbersOf i h) (numbersOf (1 - i) h) S (g .octets .0) ≡ true → ⊥)
@@ -119,9 +123,13 @@ module _ (c : Connection) (h : List LineSegment) (holds : Holds c h) (both-heard
         (λ none. by-ack ∙ m .1 (n .1 none)),
       )
 
-no-place : (c : Connection) (h : List LineSegment) → Holds c h → Reached h → (stageOf h ≡ 1 → ⊥) → (o : Presented) → Legal o → NoPlace c h o
-no-place c h holds (unanswered u turned) later o legal = absurd (later (u .stage))
-no-place c h holds (answered a turned) later o legal = record {
+one-place :
+    (c : Connection) (h : List LineSegment) → Holds c h → Reached h → (stageOf h ≡ 1 → ⊥) → (o : Presented) → Legal o →
+    OnePlace c h o
+one-place c h holds (unanswered u turned) later o legal = absurd (later (u .stage))
+one-place c h holds (answered a turned) later o legal = record {
+  start-unique = start-is c h holds a turned (o .sender) (legal .sender-known) (o .segment) (legal .placeable);
+  acked-unique = acked-is c h holds a turned (o .sender) (legal .sender-known) (o .segment) (legal .placeable);
   sequence = no-place-14 c h holds a turned (o .sender) (legal .sender-known) (o .segment) (legal .placeable);
   acknowledgement = no-place-15 c h holds a turned (o .sender) (legal .sender-known) (o .segment) (legal .placeable);
 }
@@ -129,4 +137,4 @@ no-place c h holds (answered a turned) later o legal = record {
 pub uniqueness : Uniqueness
 uniqueness side g now placeable a-syn l legal no-reset later o next =
     let k = after-all (opened side g now) (openingHistory g) (holds-first side g now placeable a-syn) (reached-first side g now placeable a-syn) l legal no-reset in
-    no-place (connectionAfter (opened side g now) l) (historyAfter (openingHistory g) l) (k .0) (k .1) later o next
+    one-place (connectionAfter (opened side g now) l) (historyAfter (openingHistory g) l) (k .0) (k .1) later o next

@@ -25,7 +25,7 @@ use Rattle.connection.specs.declared.Verdict.the-variants.{Pass}
 use Rattle.history.specs.Numbers.{Numbers, onRing, Spans}
 use Rattle.history.specs.History.{LineSegment, onWire, placedBy, Formed, Placeable}
 use Rattle.history.specs.Records.{Fits, TwoEnds}
-use Rattle.history.proofs.Step.{Near, sequence-line, ack-line, sent-line, granted-line, sentTo-spans, grantedTo-spans}
+use Rattle.history.proofs.Step.{Near, sequence-line, ackRange-small, ack-line, sent-line, granted-line, sentTo-spans, grantedTo-spans}
 use Rattle.history.proofs.Verdict.{two-sender, two-other}
 use Rattle.history.proofs.Pass.{opening-line, stageAfter≥2, ranges-met, allowed, of-answerer}
 use Rattle.history.proofs.Demand2.{stands-near, onWire-placedBy, placed-formed, pick-two}
@@ -247,7 +247,7 @@ module _ (clock : ℕ) (c : Connection) (x : ℕ → End) (ends : TwoEnds c x) (
 
     acked-below : ack (p .flags) ≡ 1 → p .acked ≤ lifted (x (1 - p .from)) .end
     acked-below acks =
-        let line = ack-line (lifted (x (1 - p .from))) T p acked in
+        let line = ack-line (lifted (x (1 - p .from))) T p ackRange ackRange-small acked in
         leb-true _ _ (&&-true (p .acked ≤ᵇ lifted (x (1 - p .from)) .end) _ (sym line ∙ rw isT (met .1 (eq-eqb _ _ acks))) .0)
 
     sent-sound : soundEnd (sent (x (p .from)) (onWire p)) ≡ true

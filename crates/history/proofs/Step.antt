@@ -3,6 +3,7 @@ use Prim.Native.Nat.{ℕ, _+_, _^_, _<_, _≤_, max}
 use mathlib.Core.Path.{_≡_, ap, _∙_}
 use native.Mathlib.Omega.{arith}
 use Rattle.choice.proofs.Tests.{leb≡both}
+use Rattle.serial.specs.Ring.{largestRange}
 use Rattle.serial.specs.Serial.{seqAt, further}
 use Rattle.serial.proofs.Ring.{range-wrap, range-unwrap, ack-wrap, ack-unwrap, wrap-plus}
 use Rattle.serial.proofs.Serial.{further-wrap}
@@ -20,8 +21,12 @@ pub record Near (E S : ℕ) : Type 0 where
 pub start-near : (F T : Numbers) (S n : ℕ) → Spans F → Spans T → F .end ≤ S + T .win → S + n ≤ F .edge → Near (F .end) S
 start-near F T S n f t low high = record { low = omega (arith, t .win-most); high = omega (arith, f .near) }
 
-pub ack-near : (T : Numbers) (A : ℕ) → A ≤ T .end → T .end ≤ A + ackRange → Near (T .end) A
-ack-near T A high low = record { low = omega arith; high = omega arith }
+pub ack-near : (range : ℕ) → range ≤ largestRange → (T : Numbers) (A : ℕ) → A ≤ T .end → T .end ≤ A + range → Near (T .end) A
+ack-near range small T A high low = record { low = omega arith; high = omega arith }
+
+-- the laws of III and IV hold for every range up to the largest; this is the one that answers use
+pub ackRange-small : ackRange ≤ largestRange
+ackRange-small = omega arith
 
 -- The sender F
 
@@ -47,12 +52,14 @@ module _ (F T : Numbers) (f : Spans F) (t : Spans T) (p : LineSegment) where
 -- The other end T
 
 module _ (T : Numbers) (t : Spans T) (p : LineSegment) where
-  pub ack-line : Near (T .end) (p .acked) → ackMet ackRange (onRing T) (onWire p) ≡ boundsIII-IV ackRange T (p .acked)
+  pub ack-line :
+      (range : ℕ) → range ≤ largestRange → Near (T .end) (p .acked) →
+      ackMet range (onRing T) (onWire p) ≡ boundsIII-IV range T (p .acked)
   unfolding ackMet
-  ack-line near =
+  ack-line range small near =
       leb≡both _ _ _ _ _ _
-      (ack-unwrap (T .end) (p .acked) ackRange (omega arith) (near .low) (near .high))
-      (ack-wrap (T .end) (p .acked) ackRange (omega arith))
+      (ack-unwrap (T .end) (p .acked) range small (near .low) (near .high))
+      (ack-wrap (T .end) (p .acked) range small)
 
   pub granted-line : Near (T .end) (p .acked) → p .acked ≤ T .end → p .window ≤ widest → granted (onRing T) (onWire p) ≡ onRing (grantedTo T (p .acked + max (p .window) 1))
   unfolding granted

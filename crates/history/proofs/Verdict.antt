@@ -8,8 +8,9 @@ use lib.Dec.{eqb}
 use borrow.Author.Tests.{eqb-true}
 use Rattle.choice.specs.Choice.{_=ᵇ_}
 use Rattle.choice.proofs.Choice.{if-=, if-=-not}
+use Rattle.choice.proofs.Tests.{eqb≡eqb}
 use Rattle.serial.specs.Ring.{wrap, ringMinus}
-use Rattle.serial.proofs.Ring.{wrap-injective, wrap-back}
+use Rattle.serial.proofs.Ring.{wrap-back, wrap-eqb}
 use Rattle.segment.specs.Flags.{ack, SYN, SYN+ACK, ACK+RST}
 use Rattle.connection.specs.Ends.{sender, other}
 use Rattle.connection.specs.Ranges.{sequenceMet, ackRange, ackMet}
@@ -18,8 +19,7 @@ use Rattle.connection.specs.declared.Connection.{Connection}
 use Rattle.connection.specs.declared.End.{End}
 use Rattle.history.specs.Numbers.{onRing, boundsI-II, boundsIII-IV, Spans}
 use Rattle.history.specs.History.{LineSegment, numbersOf, stageOf, finsOf, onWire, sameSynOnLine, replyOnLine, judgeUnanswered, judge, Holds}
-use Rattle.choice.proofs.Tests.{eqb≡eqb}
-use Rattle.history.proofs.Step.{Near, sequence-line, ack-line}
+use Rattle.history.proofs.Step.{Near, sequence-line, ackRange-small, ack-line}
 
 -- where a history stands: the opening SYN unanswered, or both ends heard
 pub record Unanswered (h : List LineSegment) : Type 0 where
@@ -33,13 +33,6 @@ pub record Answered (h : List LineSegment) : Type 0 where
   pub stage : 2 ≤ stageOf h
   pub opener : Spans (numbersOf 0 h)
   pub answerer : Spans (numbersOf 1 h)
-
--- one place near E, told by its sequence number
-pub same-place : (E S X : ℕ) → Near E S → Near E X → eqb (wrap S) (wrap X) ≡ eqb S X
-same-place E S X near near' =
-    eqb≡eqb (wrap S) (wrap X) S X
-    (λ (e : wrap S ≡ wrap X). wrap-injective S X e (omega (arith, near .high, near' .low)) (omega (arith, near .low, near' .high)))
-    (λ (e : S ≡ X). ap wrap e)
 
 before : (E S : ℕ) → 1 ≤ E → eqb S (E - 1) ≡ eqb (S + 1) E
 before E S some = eqb≡eqb S (E - 1) (S + 1) E (λ (e : S ≡ E - 1). omega arith) (λ (e : S + 1 ≡ E). omega arith)
@@ -80,7 +73,7 @@ module _ (c : Connection) (h : List LineSegment) (holds : Holds c h) (p : LineSe
         by-ack : (t : Bool) → eqb (ack (p .flags)) 1 ≡ t → (t && not (ackMet ackRange (other (c .ends) (p .from)) (onWire p))) ≡ (t && not (boundsIII-IV ackRange (numbersOf (1 - p .from) h) (p .acked)))
         by-ack true e =
             rw (holds .ends, two-other (λ k. onRing (numbersOf k h)) (p .from) side)
-            (ap not (ack-line (numbersOf (1 - p .from) h) T p (acked (eqb-true _ _ e))))
+            (ap not (ack-line (numbersOf (1 - p .from) h) T p ackRange ackRange-small (acked (eqb-true _ _ e))))
         by-ack false e = refl
 
     pub judged-answered : verdictOn c (p .from) (onWire p) ≡ judge h p
@@ -97,12 +90,15 @@ module _ (c : Connection) (h : List LineSegment) (holds : Holds c h) (p : LineSe
     syn-again opener =
         let some = unanswered .opener .begun in
         ap (eqb (wrap (p .start))) (wrap-back (numbersOf 0 h .end) 1 some (omega arith))
-        ∙ same-place (numbersOf 0 h .end) (p .start) (numbersOf 0 h .end - 1) (start opener) record { low = omega arith; high = omega arith }
+        ∙ wrap-eqb (numbersOf 0 h .end) (p .start) (numbersOf 0 h .end - 1)
+        (start opener .low) (start opener .high) (omega arith) (omega arith)
         ∙ before (numbersOf 0 h .end) (p .start) some
 
     -- a = opener end
     acks-syn : p .from ≡ 1 → eqb (wrap (p .acked)) (wrap (numbersOf 0 h .end)) ≡ eqb (p .acked) (numbersOf 0 h .end)
-    acks-syn answerer = same-place (numbersOf 0 h .end) (p .acked) (numbersOf 0 h .end) (acked answerer) record { low = omega arith; high = omega arith }
+    acks-syn answerer =
+        wrap-eqb (numbersOf 0 h .end) (p .acked) (numbersOf 0 h .end)
+        (acked answerer .low) (acked answerer .high) (omega arith) (omega arith)
 
     same-syn : sameSyn c (p .from) (onWire p) ≡ sameSynOnLine h p
     unfolding sameSyn sameSynOnLine

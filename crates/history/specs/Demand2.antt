@@ -95,11 +95,17 @@ sequenceMetAt h o S = boundsI-II (numbersOf (o .sender) h) (numbersOf (1 - o .se
 abbrev pub ackMetAt : List LineSegment → Presented → ℕ → Bool
 ackMetAt h o A = boundsIII-IV ackRange (numbersOf (1 - o .sender) h) A
 
-pub record NoPlace (c : Connection) (h : List LineSegment) (o : Presented) : Type 0 where
+pub record OnePlace (c : Connection) (h : List LineSegment) (o : Presented) : Type 0 where
+  -- where a place with the segment's sequence number meets I and II, it is the one that the segment is given: the nearest
+  pub start-unique : (S : ℕ) → wrap S ≡ o .segment .seq .0 → sequenceMetAt h o S ≡ true → S ≡ onLine h o .start
+  -- the same of its acknowledgement number, III and IV
+  pub acked-unique : (A : ℕ) → wrap A ≡ o .segment .ack .0 → ackMetAt h o A ≡ true → A ≡ onLine h o .acked
   -- 14 exactly where no such place meets I and II
   pub sequence : (answerTo c o ≡ SequenceMissed) ↔ ((S : ℕ) → wrap S ≡ o .segment .seq .0 → sequenceMetAt h o S ≡ true → ⊥)
   -- with ACK, and where one does: 15 exactly where no such acknowledgement meets III and IV
-  pub acknowledgement : ack (o .segment .flags) ≡ 1 → (S : ℕ) → wrap S ≡ o .segment .seq .0 → sequenceMetAt h o S ≡ true → (answerTo c o ≡ AckMissed) ↔ ((A : ℕ) → wrap A ≡ o .segment .ack .0 → ackMetAt h o A ≡ true → ⊥)
+  pub acknowledgement :
+      ack (o .segment .flags) ≡ 1 → (S : ℕ) → wrap S ≡ o .segment .seq .0 → sequenceMetAt h o S ≡ true →
+      (answerTo c o ≡ AckMissed) ↔ ((A : ℕ) → wrap A ≡ o .segment .ack .0 → ackMetAt h o A ≡ true → ⊥)
 
 -- from an opening SYN g on, as above, once the connection has been answered
 abbrev pub Uniqueness : Type 0
@@ -107,4 +113,4 @@ Uniqueness =
     (side : ℕ) (g : Segment) (now : ℕ) → Placeable g → g .flags ≡ SYN →
     (l : List Presented) → AllLegal l → NoReset (openingHistory g) l → (stageOf (historyAfter (openingHistory g) l) ≡ 1 → ⊥) →
     (o : Presented) → Legal o →
-    NoPlace (connectionAfter (opened side g now) l) (historyAfter (openingHistory g) l) o
+    OnePlace (connectionAfter (opened side g now) l) (historyAfter (openingHistory g) l) o

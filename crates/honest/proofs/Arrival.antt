@@ -11,17 +11,18 @@ use Rattle.choice.specs.Choice.{if_then_else_}
 use Rattle.choice.proofs.Choice.{if-either, if-=-not}
 use Rattle.segment.specs.Flags.{rst, ack}
 use Rattle.segment.specs.declared.Segment.{Segment}
+use Rattle.connection.specs.Ranges.{ackRange}
 use Rattle.connection.specs.Stages.{lifeOf, stageAfter, openStage}
 use Rattle.connection.specs.Decision.{verdictOn, passed, opened, carried, repeated, answered, free}
 use Rattle.connection.specs.declared.Connection.{Connection}
 use Rattle.connection.specs.declared.Verdict.the-variants.{Pass}
 use Rattle.history.specs.Numbers.{Numbers}
 use Rattle.history.specs.History.{LineSegment, numbersOf, onWire, judge, Holds}
-use Rattle.history.proofs.Step.{Near, start-near, ack-near}
+use Rattle.history.proofs.Step.{Near, start-near, ack-near, ackRange-small}
 use Rattle.history.proofs.Verdict.{Unanswered, Answered, spans, judged-answered, judged-unanswered}
 use Rattle.history.proofs.Pass.{carried-holds, carried-answered, repeated-holds, repeated-unanswered, answered-holds, answered-answered, answerer-begins}
 use Rattle.honest.specs.Keys.{Keys}
-use Rattle.honest.specs.Rules.{Event, Pair}
+use Rattle.honest.specs.Rules.{Event, Pair, InOrder}
 use Rattle.honest.proofs.Sends.{SentWith, First, Fact, Protocol, rises-more}
 use Rattle.honest.proofs.Bounds as Bounds
 
@@ -81,7 +82,7 @@ module _ {K : Keys} {Call : Type 0} (P : Pair K) (h : List LineSegment) (Arrived
     pub heard-after : Heard P (p ∷ h)
 
   -- from stage 2 on
-  module _ (in-order : (j : ℕ) (g : LineSegment) → Arrived j g → g .from ≡ p .from → j ≤ k) (a : Answered h) (begun : (i : ℕ) → i < 2 → P .start i + 1 ≤ numbersOf i h .end) where
+  module _ (in-order : InOrder Arrived (p .from) k) (a : Answered h) (begun : (i : ℕ) → i < 2 → P .start i + 1 ≤ numbersOf i h .end) where
     other-known : 1 - p .from < 2
     other-known = omega (arith, fact .end-known)
 
@@ -95,7 +96,7 @@ module _ {K : Keys} {Call : Type 0} (P : Pair K) (h : List LineSegment) (Arrived
 
     near-ack : ack (p .flags) ≡ 1 → Near (numbersOf (1 - p .from) h .end) (p .acked)
     near-ack acks =
-        ack-near (numbersOf (1 - p .from) h) (p .acked)
+        ack-near ackRange ackRange-small (numbersOf (1 - p .from) h) (p .acked)
         (Bounds.bound-III P h Arrived L inv k p s sent in-order a begun acks) (Bounds.bound-IV P h Arrived L inv k p s sent in-order a begun acks)
 
     later-passing : Passing
@@ -150,6 +151,6 @@ module _ {K : Keys} {Call : Type 0} (P : Pair K) (h : List LineSegment) (Arrived
                 omega (arith, end, x .rule .start)
             begun-both answerer (suc (suc i)) known = absurd (omega arith)
 
-  pub passing : ((j : ℕ) (g : LineSegment) → Arrived j g → g .from ≡ p .from → j ≤ k) → Heard P h → Passing
+  pub passing : InOrder Arrived (p .from) k → Heard P h → Passing
   passing in-order (quiet u begun) = first-passing u begun
   passing in-order (both a begun) = later-passing in-order a begun

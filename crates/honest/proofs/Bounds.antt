@@ -1,7 +1,7 @@
 -- Bounds I to IV at an arrival of an honest segment, and stage 1's three segments.
 use Prim.Native.Nat.{ℕ, zero, suc, _+_, _-_, _<_, _≤_}
 use mathlib.Core.Path.{_≡_, refl, sym, ap, subst, _∙_}
-use mathlib.Core.Logic.{_⊎_, ⊎-elim}
+use mathlib.Core.Logic.{⊎-elim}
 use mathlib.Core.Bool.{Bool, true, false, _&&_, _||_, not}
 use mathlib.Core.List.{List}
 use native.Mathlib.Omega.{arith}
@@ -10,18 +10,18 @@ use borrow.Author.Tests.{eq-eqb, eqb-true, eqb-false, le-leb}
 use Rattle.choice.specs.Choice.{if_then_else_, _=ᵇ_}
 use Rattle.choice.proofs.Choice.{if-true, if-false, if-=, if-=-not}
 use Rattle.segment.specs.Flags.{ack, SYN, SYN+ACK}
-use Rattle.connection.specs.Ranges.{ackRange}
+use Rattle.connection.specs.Ranges.{ackRange, widest}
 use Rattle.connection.specs.declared.Verdict.the-variants.{Pass, AckMissed}
 use Rattle.history.specs.Numbers.{Numbers, boundsI-II, boundsIII-IV, Spans}
 use Rattle.history.specs.History.{LineSegment, numbersOf, stageOf, judge, sameSynOnLine, replyOnLine, judgeUnanswered, Formed}
 use Rattle.history.proofs.Verdict.{Unanswered, Answered, spans}
 use Rattle.honest.specs.Keys.{Keys}
-use Rattle.honest.specs.Rules.{Event, Pair, highest, ackOf, endOf, answered}
+use Rattle.honest.specs.Rules.{Event, Pair, InOrder, highest, ackOf, endOf, answered}
 use Rattle.honest.proofs.Lists.{In, highest-lub, endBy-mine, numbers-up, end-lub}
 use Rattle.honest.proofs.Sends.{SentWith, ackFrom, Later, First, Fact, Protocol, FirstFacts, first-facts, answered-in, passed-sent}
 
 module _ {K : Keys} {Call : Type 0} (P : Pair K) (h : List LineSegment) (Arrived : ℕ → LineSegment → Type 0) (L : List (Event Call)) (inv : Protocol P h Arrived L) where
-  module _ (k : ℕ) (p : LineSegment) (s : ℕ) (sent : SentWith k p s L) (in-order : (j : ℕ) (g : LineSegment) → Arrived j g → g .from ≡ p .from → j ≤ k) where
+  module _ (k : ℕ) (p : LineSegment) (s : ℕ) (sent : SentWith k p s L) (in-order : InOrder Arrived (p .from) k) where
     fact : Fact P h p s L
     fact = inv .facts k p s sent
 
@@ -60,26 +60,41 @@ module _ {K : Keys} {Call : Type 0} (P : Pair K) (h : List LineSegment) (Arrived
       pub bound-III : ack (p .flags) ≡ 1 → p .acked ≤ numbersOf (1 - p .from) h .end
       bound-III acks = omega (arith, fact .acks-passed acks, begun-theirs)
 
-      -- no acknowledgement of this end that has passed is higher
-      acks-below : ack (p .flags) ≡ 1 → highest (ackFrom (p .from)) h ≤ p .acked
-      acks-below acks = highest-lub (ackFrom (p .from)) (p .acked) h (λ g there. below g there (eqb (g .from) (p .from)) refl (eqb (ack (g .flags)) 1) refl)
+      -- where each acknowledgement of this end that has passed is further by an allowance at most, so is the highest
+      acks-near :
+          (allowance : ℕ) → ((g : LineSegment) → In g h → g .from ≡ p .from → ack (g .flags) ≡ 1 → g .acked ≤ p .acked + allowance) →
+          highest (ackFrom (p .from)) h ≤ p .acked + allowance
+      acks-near allowance each =
+          highest-lub (ackFrom (p .from)) _ h (λ g there. by g there (eqb (g .from) (p .from)) refl (eqb (ack (g .flags)) 1) refl)
         where
-          below : (g : LineSegment) → In g h → (t : Bool) → eqb (g .from) (p .from) ≡ t → (u : Bool) → eqb (ack (g .flags)) 1 ≡ u → ackFrom (p .from) g ≤ p .acked
-          below g there true e true a =
+          by :
+              (g : LineSegment) → In g h → (t : Bool) → eqb (g .from) (p .from) ≡ t → (u : Bool) → eqb (ack (g .flags)) 1 ≡ u →
+              ackFrom (p .from) g ≤ p .acked + allowance
+          by g there true e true a =
               rw (if-true (g .from =ᵇ p .from) (ackOf g) 0 e, if-true (ack (g .flags) =ᵇ 1) (g .acked) 0 a)
-              (admitted g there (eqb-true _ _ e) .3 (eqb-true _ _ a) acks)
-          below g there true e false a = rw (if-true (g .from =ᵇ p .from) (ackOf g) 0 e, if-false (ack (g .flags) =ᵇ 1) (g .acked) 0 a) (omega arith)
-          below g there false e u a = rw (if-false (g .from =ᵇ p .from) (ackOf g) 0 e) (omega arith)
+              (each g there (eqb-true _ _ e) (eqb-true _ _ a))
+          by g there true e false a = rw (if-true (g .from =ᵇ p .from) (ackOf g) 0 e, if-false (ack (g .flags) =ᵇ 1) (g .acked) 0 a) (omega arith)
+          by g there false e u a = rw (if-false (g .from =ᵇ p .from) (ackOf g) 0 e) (omega arith)
 
-      pub bound-IV : ack (p .flags) ≡ 1 → numbersOf (1 - p .from) h .end ≤ p .acked + ackRange
-      bound-IV acks = end-lub (1 - p .from) _ h (λ g there other.
+      -- IV, for any largest window of this end, range and allowance
+      ack-in-range :
+          (largest range allowance : ℕ) → largest + allowance ≤ range → numbersOf (p .from) h .win ≤ largest →
+          highest (ackFrom (p .from)) h ≤ p .acked + allowance → ack (p .flags) ≡ 1 →
+          numbersOf (1 - p .from) h .end ≤ p .acked + range
+      ack-in-range largest range allowance wide most near acks = end-lub (1 - p .from) _ h (λ g there other.
           let a = passed-sent P h Arrived L inv g there in
           let f = inv .facts (a .0) g (a .1) (a .3) in
           let back : 1 - g .from ≡ p .from = omega (arith, fact .end-known) in
           let window : numbersOf (1 - g .from) h .win ≡ numbersOf (p .from) h .win = ap (λ (j : ℕ). numbersOf j h .win) back in
           let heard : highest (ackFrom (1 - g .from)) h ≡ highest (ackFrom (p .from)) h = ap (λ (j : ℕ). highest (ackFrom j) h) back in
           let begins : P .start (g .from) ≡ P .start (1 - p .from) = ap (P .start) other in
-          omega (arith, f .in-window, f .snapshot-passed, F .win-most, acks-below acks, fact .acks-syn acks))
+          omega (arith, f .in-window, f .snapshot-passed, fact .acks-syn acks))
+
+      -- as arrivals come in order, no acknowledgement that has passed is further
+      pub bound-IV : ack (p .flags) ≡ 1 → numbersOf (1 - p .from) h .end ≤ p .acked + ackRange
+      bound-IV acks =
+          ack-in-range widest ackRange 0 (omega arith) (F .win-most)
+          (acks-near 0 (λ g there same acks'. omega (arith, admitted g there same .3 acks' acks))) acks
 
       pub judged-pass : judge h p ≡ Pass
       unfolding judge

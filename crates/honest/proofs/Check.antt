@@ -16,8 +16,8 @@ use Rattle.honest.specs.Keys.{Keys}
 use Rattle.honest.specs.Rows.{Table, Ask, search}
 use Rattle.honest.specs.Filter.{connections}
 use Rattle.honest.specs.Machine.{asks, Machine}
-use Rattle.honest.specs.Rules.{Label, opening, arrival, other, Event, send, call, delivery, Pair, sentBy, Sent, receivedBy, highest, some, ackOf, edgeOf, endOf, answered, sideOf, keyOf, FirstSegment, LaterSegment, Honest, first, later}
-use Rattle.honest.specs.Honest.{told, passes, Live, said, Is, Arrived, Passed, Arrives, Opening, Arrival, FairCall, Fair, Legal}
+use Rattle.honest.specs.Rules.{Label, opening, arrival, other, Is, Event, send, call, delivery, Pair, sentBy, Sent, Arrived, InOrder, receivedBy, highest, some, ackOf, edgeOf, endOf, answered, sideOf, keyOf, FirstSegment, LaterSegment, Honest, first, later}
+use Rattle.honest.specs.Honest.{told, passes, Live, said, Passed, Arrives, Opening, Arrival, FairCall, Fair, Legal}
 use Rattle.honest.specs.Instance.{ListCall, listMachine}
 
 -- Tests with what they show
@@ -87,7 +87,9 @@ formed p = so (λ h. record { window-fits = h .0; syn-alone = h .1 }) (both (atM
 -- Events
 
 -- where neither this sending nor one before is past the k-th of end i
-pub one-more : {A : ℕ → LineSegment → Type 0} (i k n : ℕ) (p : LineSegment) → (p .from ≡ i → n ≤ k) → ((j : ℕ) (g : LineSegment) → A j g → g .from ≡ i → j ≤ k) → (j : ℕ) (g : LineSegment) → ((j ≡ n) × (g ≡ p)) ⊎ A j g → g .from ≡ i → j ≤ k
+pub one-more :
+    {A : ℕ → LineSegment → Type 0} (i k n : ℕ) (p : LineSegment) → (p .from ≡ i → n ≤ k) → InOrder A i k →
+    InOrder (λ j g. ((j ≡ n) × (g ≡ p)) ⊎ A j g) i k
 one-more i k n p this before j g (inl (same, is)) of-i = rw same (this (ap (λ (x : LineSegment). x .from) (sym is) ∙ of-i))
 one-more i k n p this before j g (inr was) of-i = before j g was of-i
 
@@ -125,7 +127,7 @@ module _ {K : Keys} (t₀ : Table K connections) (P : Pair K) where
   wasSent k p (call q l ∷ L) = wasSent k p L
   wasSent k p (delivery j g ∷ L) = wasSent k p L
 
-  abbrev arrives : (k : ℕ) (p : LineSegment) (q : ListCall K) (L : Seen) → Test (Arrives M t₀ P k p q L)
+  abbrev arrives : (k : ℕ) (p : LineSegment) (q : ListCall K) (L : Seen) → Test (Arrives M P k p q L)
   arrives k p q L =
       so (λ h. record { sent = h .0; clock = q .0 .clock; brings = λ i. asks (record { side = h .1 .0 i; clock = q .0 .clock; key = h .1 .1 .0 i; segment = h .1 .1 .1 i }) })
       (both (wasSent k p L)
@@ -140,19 +142,19 @@ module _ {K : Keys} (t₀ : Table K connections) (P : Pair K) where
         first-one = h .0;
         arrives = h .1 .0;
         opener = h .1 .1 .0;
-        finds-none = finds-none (q .0) (told M t₀ P L .state) (h .1 .1 .1 .0);
+        finds-none = finds-none (q .0) (told M t₀ L .state) (h .1 .1 .1 .0);
         answered-0 = h .1 .1 .1 .1;
       })
-      (both (isFalse (told M t₀ P L .opened))
+      (both (isFalse (told M t₀ L .opened))
       (both (arrives k p q L)
       (both (equal (p .from) 0)
-      (both (equal (search K connections (told M t₀ P L .state) (q .0)) (length (told M t₀ P L .state .entries))) (isTrue (passes M t₀ P (told M t₀ P L) q))))))
+      (both (equal (search K connections (told M t₀ L .state) (q .0)) (length (told M t₀ L .state .entries))) (isTrue (passes M (told M t₀ L) q))))))
 
-  abbrev isLive : (q : ListCall K) (L : Seen) → Test (Live M t₀ P q L)
-  isLive q L = below (max (q .0 .clock) (told M t₀ P L .passClock)) (told M t₀ P L .until)
+  abbrev isLive : (q : ListCall K) (L : Seen) → Test (Live M t₀ q L)
+  isLive q L = below (max (q .0 .clock) (told M t₀ L .passClock)) (told M t₀ L .until)
 
   -- no later sending of end i has arrived
-  abbrev inOrder : (i k : ℕ) (L : Seen) → Test ((j : ℕ) (g : LineSegment) → Arrived M t₀ P j g L → g .from ≡ i → j ≤ k)
+  abbrev inOrder : (i k : ℕ) (L : Seen) → Test (InOrder (λ j g. Arrived j g L) i k)
   inOrder i k [] = yes (λ j g never. absurd never)
   inOrder i k (send p ∷ L) = inOrder i k L
   inOrder i k (call q (opening n p) ∷ L) = so (λ h. one-more i k n p (h .0) (h .1)) (both (ifEqual (p .from) i (atMost n k)) (inOrder i k L))
@@ -163,7 +165,7 @@ module _ {K : Keys} (t₀ : Table K connections) (P : Pair K) where
   abbrev comes : (k : ℕ) (p : LineSegment) (q : ListCall K) (L : Seen) → Test (Arrival M t₀ P k p q L)
   comes k p q L =
       so (λ h. record { after-opening = h .0; arrives = h .1 .0; in-order = h .1 .1 .0; live = h .1 .1 .1 })
-      (both (isTrue (told M t₀ P L .opened)) (both (arrives k p q L) (both (inOrder (p .from) k L) (isLive q L))))
+      (both (isTrue (told M t₀ L .opened)) (both (arrives k p q L) (both (inOrder (p .from) k L) (isLive q L))))
 
   -- refused, or passed elsewhere, or once the connection has expired, or before it was opened
   abbrev elsewhere : (q : ListCall K) (L : Seen) → Test (FairCall M t₀ P other q L)
@@ -172,22 +174,22 @@ module _ {K : Keys} (t₀ : Table K connections) (P : Pair K) where
       ⊎-elim (λ f. false-true (sym f ∙ opened-t))
       (⊎-elim (λ f. false-true (sym f ∙ lt-ltb _ _ live))
       (⊎-elim (λ f. false-true (sym f ∙ passed-t)) (λ f. false-true (sym f ∙ eq-eqb _ _ same)))) h)
-      (either (isFalse (told M t₀ P L .opened)) (either (isFalse (isLive q L .holds)) (either (isFalse (passes M t₀ P (told M t₀ P L) q)) (isFalse (said M t₀ P L q .place =ᵇ told M t₀ P L .place)))))
+      (either (isFalse (told M t₀ L .opened)) (either (isFalse (isLive q L .holds)) (either (isFalse (passes M (told M t₀ L) q)) (isFalse (said M t₀ L q .place =ᵇ told M t₀ L .place)))))
 
   abbrev fairCall : (l : Label) (q : ListCall K) (L : Seen) → Test (FairCall M t₀ P l q L)
   fairCall (opening k p) q L = opens k p q L
   fairCall (arrival k p) q L = comes k p q L
   fairCall other q L = elsewhere q L
 
-  abbrev isLabel : (l : Label) (k : ℕ) (p : LineSegment) → Test (Is M t₀ P l k p)
+  abbrev isLabel : (l : Label) (k : ℕ) (p : LineSegment) → Test (Is l k p)
   isLabel (opening j g) k p = both (equal k j) (sameLine p g)
   isLabel (arrival j g) k p = both (equal k j) (sameLine p g)
   isLabel other k p = no
 
-  abbrev hasPassed : (k : ℕ) (p : LineSegment) (L : Seen) → Test (Passed M t₀ P k p L)
+  abbrev hasPassed : (k : ℕ) (p : LineSegment) (L : Seen) → Test (Passed M t₀ k p L)
   hasPassed k p [] = no
   hasPassed k p (send g ∷ L) = hasPassed k p L
-  hasPassed k p (call q l ∷ L) = either (both (isLabel l k p) (isTrue (passes M t₀ P (told M t₀ P L) q))) (hasPassed k p L)
+  hasPassed k p (call q l ∷ L) = either (both (isLabel l k p) (isTrue (passes M (told M t₀ L) q))) (hasPassed k p L)
   hasPassed k p (delivery j g ∷ L) = hasPassed k p L
 
   abbrev fair : (x : Event (ListCall K)) (L : Seen) → Test (Fair M t₀ P x L)

@@ -1,5 +1,5 @@
 -- Demand 3: two honest ends are never blocked, by any machine that keeps to the filter.
-use Prim.Native.Nat.{ℕ, _+_, _-_, _<_, _≤_, max}
+use Prim.Native.Nat.{ℕ, _+_, _<_, _≤_, max}
 use mathlib.Core.Path.{_≡_, refl, sym, ap, subst, _∙_}
 use mathlib.Core.Logic.{_⊎_, inl, inr, ⊎-elim}
 use mathlib.Core.Bool.{Bool, true, false}
@@ -21,9 +21,9 @@ use Rattle.history.proofs.Pass.{opened-unanswered, opened-holds, opener-begins}
 use Rattle.honest.specs.Keys.{Keys}
 use Rattle.honest.specs.Rows.{Table, Ask, Reply, clockUsed, search, pass, entryAfter, matched, filter}
 use Rattle.honest.specs.Filter.{connections, SoundTable}
-use Rattle.honest.specs.Machine.{Reading, refused, asks, Machine, KeepsTo}
-use Rattle.honest.specs.Rules.{Label, opening, arrival, other, Event, send, call, delivery, Pair, sideOf, keyOf, Sent, receivedBy, answered, Honest}
-use Rattle.honest.specs.Honest.{Told, clockIn, passes, nextClock, afterSegment, afterCall, told, said, Arrived, Passed, Opening, Arrival, FairCall, Legal, NeverBlocked, Demand3}
+use Rattle.honest.specs.Machine.{Reading, refused, asks, apart, Machine, clockIn, KeepsTo}
+use Rattle.honest.specs.Rules.{Label, opening, arrival, other, Event, send, call, delivery, Pair, sideOf, keyOf, Sent, Arrived, receivedBy, answered, Honest}
+use Rattle.honest.specs.Honest.{Told, passes, nextClock, afterSegment, afterCall, told, said, Passed, Opening, Arrival, FairCall, Legal, NeverBlocked, Demand3}
 use Rattle.honest.proofs.Lists.{In}
 use Rattle.honest.proofs.Sends.{SentWith, sent-with, First, Later, Fact, first-facts, Protocol, answered-in, protocol-sent, protocol-delivered, protocol-called, protocol-passed}
 use Rattle.honest.proofs.Table.{OurEntry, OthersExpired, AskOf, arrival-found, opening-made, pass-elsewhere, pass-on-ours, pass-clock, filter-matched}
@@ -31,7 +31,7 @@ use Rattle.honest.proofs.Arrival.{Heard, quiet, passing, passed-renewed
 
 module _ {K : Keys} (M : Machine K) (Sound : M .State → Type 0) (keeps : KeepsTo K M Sound) (s₀ : M .State) (P : Pair K) (known : P .side ≤ 1) where
   -- the entry is there as the history has it, and no other of the pair is live
-  pub record Alive (t : Told M s₀ P) (c : Connection) : Type 0 where
+  pub record Alive (t : Told M) (c : Connection) : Type 0 where
     pub ours : OurEntry P (M .view (t .state)) (t .place) c
     pub others : OthersExpired P (M .view (t .state)) (t .place)
     pub holds : Holds c (t .passed)
@@ -39,33 +39,41 @@ module _ {K : Keys} (M : Machine K) (Sound : M .State → Type 0) (keeps : Keeps
     pub told-early : t .until ≤ c .deadline
     pub first-early : M .view s₀ .clock < c .deadline
 
-  pub data Phase (t : Told M s₀ P) : Type 0 where
+  pub data Phase (t : Told M) : Type 0 where
     before : t .opened ≡ false → t .passed ≡ [] → Phase t
     dead : t .opened ≡ true → t .until ≤ t .passClock → Phase t
     alive : t .opened ≡ true → (c : Connection) → Alive t c → Phase t
 
-  pub record Table-kept (t : Told M s₀ P) : Type 0 where
+  pub record Table-kept (t : Told M) : Type 0 where
     pub sound : Sound (t .state)
     pub clock : M .view (t .state) .clock ≡ max (M .view s₀ .clock) (t .passClock)
     pub phase : Phase t
 
   pub record Inv (L : List (Event (M .Call))) : Type 0 where
-    pub table : Table-kept (told M s₀ P L)
-    pub protocol : Protocol P (told M s₀ P L .passed) (λ k p. Arrived M s₀ P k p L) L
+    pub table : Table-kept (told M s₀ L)
+    pub protocol : Protocol P (told M s₀ L .passed) (λ k p. Arrived k p L) L
 
   -- What a call does to the table
 
-  module _ (t : Told M s₀ P) (kept : Table-kept t) (q : M .Call) where
-    -- a call that does not pass leaves all as it was
-    blocked-same : passes M s₀ P t q ≡ false → M .run (t .state) q .next ≡ t .state
+  module _ (t : Told M) (kept : Table-kept t) (q : M .Call) where
+    -- the connection is live at the call, told from the calls
+    abbrev LiveNow : Type 0
+    LiveNow = max (clockIn (M .reads q)) (t .passClock) < t .until
+
+    -- then the call is not passed on the opening's entry
+    abbrev Elsewhere : Type 0
+    Elsewhere = t .opened ≡ true → LiveNow → passes M t q ≡ true → M .run (t .state) q .place ≡ t .place → ⊥
+
+    -- a call that does not pass leaves the table as it was
+    blocked-same : passes M t q ≡ false → M .view (M .run (t .state) q .next) ≡ M .view (t .state)
     unfolding passes
     blocked-same e = keeps .blocked-keeps (t .state) q (eqb-false _ _ e)
 
-    passed-0 : passes M s₀ P t q ≡ true → M .run (t .state) q .answer ≡ 0
+    passed-0 : passes M t q ≡ true → M .run (t .state) q .answer ≡ 0
     unfolding passes
     passed-0 e = eqb-true _ _ e
 
-    -- one that passes was read, and is answered by the filter
+    -- one that asks and passes is answered by the filter
     pub record Asked : Type 0 where
       pub ask : Ask K
       pub read : M .reads q ≡ asks ask
@@ -73,53 +81,67 @@ module _ {K : Keys} (M : Machine K) (Sound : M .State → Type 0) (keeps : Keeps
       pub place : M .run (t .state) q .place ≡ filter K connections (M .view (t .state)) ask .place
       pub table : M .view (M .run (t .state) q .next) ≡ filter K connections (M .view (t .state)) ask .table
 
-    asked : passes M s₀ P t q ≡ true → Asked
-    asked e = by (M .reads q) refl
-      where
-        by : (r : Reading (Ask K)) → M .reads q ≡ r → Asked
-        by (refused n p) is = absurd (keeps .refusal-blocks q n p is (sym (keeps .refusal-answered (t .state) q n p (kept .sound) is) ∙ passed-0 e))
-        by (asks a) is = record {
-          ask = a;
-          read = is;
-          answer = sym (keeps .answered (t .state) q a (kept .sound) is) ∙ passed-0 e;
-          place = keeps .placed (t .state) q a (kept .sound) is;
-          table = keeps .left (t .state) q a (kept .sound) is;
-        }
+    asked : (a : Ask K) → M .reads q ≡ asks a → passes M t q ≡ true → Asked
+    asked a is e = record {
+      ask = a;
+      read = is;
+      answer = sym (keeps .answered (t .state) q a (kept .sound) is) ∙ passed-0 e;
+      place = keeps .placed (t .state) q a (kept .sound) is;
+      table = keeps .left (t .state) q a (kept .sound) is;
+    }
 
     -- the header clock is the largest clock used at a pass
-    clock-after : passes M s₀ P t q ≡ true → M .view (M .run (t .state) q .next) .clock ≡ max (M .view s₀ .clock) (nextClock M s₀ P t q)
-    clock-after e =
-        let x = asked e in
+    clock-after : Asked → passes M t q ≡ true → M .view (M .run (t .state) q .next) .clock ≡ max (M .view s₀ .clock) (nextClock M t q)
+    clock-after x e =
         let used = ap (λ (b : Table K connections). b .clock) (x .table) ∙ pass-clock P (M .view (t .state)) (x .ask) (x .answer) in
-        let given = ap (clockIn M s₀ P) (x .read) in
-        let next : nextClock M s₀ P t q ≡ max (clockIn M s₀ P (M .reads q)) (t .passClock) = if-true _ _ _ e in
+        let given = ap (clockIn) (x .read) in
+        let next : nextClock M t q ≡ max (clockIn (M .reads q)) (t .passClock) = if-true _ _ _ e in
         omega (arith, used, given, next, kept .clock)
 
     -- Any other call
 
-    other-blocked : passes M s₀ P t q ≡ false → afterCall M s₀ P t q other ≡ t
+    -- one that leaves the table and the pass clock as they were
+    unmoved-phase :
+        M .view (M .run (t .state) q .next) ≡ M .view (t .state) → nextClock M t q ≡ t .passClock →
+        Phase t → Phase (afterCall M t q other)
     unfolding afterCall
-    other-blocked e =
-        let clock : nextClock M s₀ P t q ≡ t .passClock = if-false _ _ _ e in
-        λ k. record { state = blocked-same e k; opened = t .opened; place = t .place; passed = t .passed; passClock = clock k; until = t .until }
+    unmoved-phase same clock (before closed none) = before closed none
+    unmoved-phase same clock (dead opened-t late) = dead opened-t (omega (arith, late, clock))
+    unmoved-phase same clock (alive opened-t c al) = alive opened-t c record {
+      ours = rw same (al .ours);
+      others = rw same (al .others);
+      holds = al .holds;
+      heard = al .heard;
+      told-early = al .told-early;
+      first-early = al .first-early;
+    }
 
-    clocks-rise : t .passClock ≤ nextClock M s₀ P t q
+    unmoved : M .view (M .run (t .state) q .next) ≡ M .view (t .state) → nextClock M t q ≡ t .passClock → Table-kept (afterCall M t q other)
+    unfolding afterCall
+    unmoved same clock = record {
+      sound = keeps .sound-kept (t .state) q (kept .sound);
+      clock = omega (arith, ap (λ (b : Table K connections). b .clock) same, clock, kept .clock);
+      phase = unmoved-phase same clock (kept .phase);
+    }
+
+    clocks-rise : t .passClock ≤ nextClock M t q
     clocks-rise = if-either (λ n. t .passClock ≤ n) _ _ _ (omega arith) (omega arith)
 
     -- a connection that is live as told is live by its deadline
-    live-now : (c : Connection) → Alive t c → (a : Ask K) → M .reads q ≡ asks a → max (clockIn M s₀ P (M .reads q)) (t .passClock) < t .until → clockUsed K connections (M .view (t .state)) a < c .deadline
+    live-now :
+        (c : Connection) → Alive t c → (a : Ask K) → M .reads q ≡ asks a → LiveNow →
+        clockUsed K connections (M .view (t .state)) a < c .deadline
     live-now c al a read live =
-        let given = ap (clockIn M s₀ P) read in
+        let given = ap (clockIn) read in
         omega (arith, kept .clock, al .told-early, al .first-early)
 
-    other-phase : (t .opened ≡ true → max (clockIn M s₀ P (M .reads q)) (t .passClock) < t .until → passes M s₀ P t q ≡ true → M .run (t .state) q .place ≡ t .place → ⊥) → passes M s₀ P t q ≡ true → Phase t → Phase (afterCall M s₀ P t q other)
+    other-phase : Elsewhere → Asked → passes M t q ≡ true → Phase t → Phase (afterCall M t q other)
     unfolding afterCall
-    other-phase fair e (before closed none) = before closed none
-    other-phase fair e (dead opened-t late) = dead opened-t (omega (arith, late, clocks-rise))
-    other-phase fair e (alive opened-t c al) =
+    other-phase fair x e (before closed none) = before closed none
+    other-phase fair x e (dead opened-t late) = dead opened-t (omega (arith, late, clocks-rise))
+    other-phase fair x e (alive opened-t c al) =
         ⊎-elim
-        (λ (live : max (clockIn M s₀ P (M .reads q)) (t .passClock) < t .until).
-        let x = asked e in
+        (λ (live : LiveNow).
         let elsewhere : filter K connections (M .view (t .state)) (x .ask) .place ≡ t .place → ⊥ = λ same. fair opened-t live e (x .place ∙ same) in
         let now = live-now c al (x .ask) (x .read) live in
         let r = pass-elsewhere P known (M .view (t .state)) (keeps .sound-table (t .state) (kept .sound)) (t .place) c (x .ask) (al .ours) (al .others) now (x .answer) elsewhere in
@@ -131,21 +153,34 @@ module _ {K : Keys} (M : Machine K) (Sound : M .State → Type 0) (keeps : Keeps
           told-early = al .told-early;
           first-early = al .first-early;
         })
-        (λ (late : t .until ≤ max (clockIn M s₀ P (M .reads q)) (t .passClock)).
-        let next : nextClock M s₀ P t q ≡ max (clockIn M s₀ P (M .reads q)) (t .passClock) = if-true _ _ _ e in
+        (λ (late : t .until ≤ max (clockIn (M .reads q)) (t .passClock)).
+        let next : nextClock M t q ≡ max (clockIn (M .reads q)) (t .passClock) = if-true _ _ _ e in
         dead opened-t (omega (arith, late, next)))
-        (lt-or-ge (max (clockIn M s₀ P (M .reads q)) (t .passClock)) (t .until))
+        (lt-or-ge (max (clockIn (M .reads q)) (t .passClock)) (t .until))
 
-    pub other-kept : (t .opened ≡ true → max (clockIn M s₀ P (M .reads q)) (t .passClock) < t .until → passes M s₀ P t q ≡ true → M .run (t .state) q .place ≡ t .place → ⊥) → Table-kept (afterCall M s₀ P t q other)
+    pub other-kept : Elsewhere → Table-kept (afterCall M t q other)
     unfolding afterCall
-    other-kept fair = ⊎-elim by-pass (λ (e : passes M s₀ P t q ≡ false). subst Table-kept (sym (other-blocked e)) kept) (true-or-false (passes M s₀ P t q))
+    other-kept fair =
+        ⊎-elim (by-reading (M .reads q) refl) (λ (e : passes M t q ≡ false). unmoved (blocked-same e) (if-false _ _ _ e))
+        (true-or-false (passes M t q))
       where
-        by-pass : passes M s₀ P t q ≡ true → Table-kept (afterCall M s₀ P t q other)
-        by-pass e = record { sound = keeps .sound-kept (t .state) q (kept .sound); clock = clock-after e; phase = other-phase fair e (kept .phase) }
+        by-reading : (r : Reading (Ask K)) → M .reads q ≡ r → passes M t q ≡ true → Table-kept (afterCall M t q other)
+        by-reading (refused n p) is e = absurd (keeps .refusal-blocks q n p is (sym (keeps .refusal-answered (t .state) q n p (kept .sound) is) ∙ passed-0 e))
+        by-reading (asks a) is e =
+            let x = asked a is e in
+            record {
+              sound = keeps .sound-kept (t .state) q (kept .sound);
+              clock = clock-after x e;
+              phase = other-phase fair x e (kept .phase);
+            }
+        by-reading apart is e =
+            let clock : nextClock M t q ≡ max (clockIn (M .reads q)) (t .passClock) = if-true _ _ _ e in
+            let none = ap (clockIn) is in
+            unmoved (keeps .apart-keeps (t .state) q (kept .sound) is) (omega (arith, clock, none))
 
     -- A call with a segment p of the pair's, that passes
 
-    module _ (p : LineSegment) (a : Ask K) (read : M .reads q ≡ asks a) (brings : a .segment ≡ onWire p) (e : passes M s₀ P t q ≡ true) where
+    module _ (p : LineSegment) (a : Ask K) (read : M .reads q ≡ asks a) (brings : a .segment ≡ onWire p) (e : passes M t q ≡ true) where
       b : Table K connections
       b = M .view (t .state)
 
@@ -159,11 +194,14 @@ module _ {K : Keys} (M : Machine K) (Sound : M .State → Type 0) (keeps : Keeps
       answer-0 = sym (keeps .answered (t .state) q a (kept .sound) read) ∙ passed-0 e
 
       -- what is told of the deadline is no later than the entry's
-      told-before : (place : ℕ) (c : Connection) → c .stage ≡ stageOf (p ∷ t .passed) → c .deadline ≡ clockUsed K connections (M .view (t .state)) a + lifeOf (c .stage) → afterSegment M s₀ P t q place p .until ≤ c .deadline
+      told-before :
+          (place : ℕ) (c : Connection) → c .stage ≡ stageOf (p ∷ t .passed) →
+          c .deadline ≡ clockUsed K connections (M .view (t .state)) a + lifeOf (c .stage) →
+          afterSegment M t q place p .until ≤ c .deadline
       told-before place c stage deadline =
-          let given = ap (clockIn M s₀ P) read in
-          let next : nextClock M s₀ P t q ≡ max (clockIn M s₀ P (M .reads q)) (t .passClock) = if-true _ _ _ e in
-          let told-then : afterSegment M s₀ P t q place p .until ≡ nextClock M s₀ P t q + lifeOf (stageOf (p ∷ t .passed)) = if-true _ _ _ e in
+          let given = ap (clockIn) read in
+          let next : nextClock M t q ≡ max (clockIn (M .reads q)) (t .passClock) = if-true _ _ _ e in
+          let told-then : afterSegment M t q place p .until ≡ nextClock M t q + lifeOf (stageOf (p ∷ t .passed)) = if-true _ _ _ e in
           let life = ap lifeOf stage in
           omega (arith, given, next, told-then, life, deadline, kept .clock)
 
@@ -171,12 +209,17 @@ module _ {K : Keys} (M : Machine K) (Sound : M .State → Type 0) (keeps : Keeps
       first-before c deadline life = omega (arith, kept .clock)
 
       -- the entry that it leaves, of a connection that holds the history with it on top
-      segment-kept : (place : ℕ) (c : Connection) → OurEntry P (M .view (M .run (t .state) q .next)) place c → OthersExpired P (M .view (M .run (t .state) q .next)) place → Holds c (p ∷ t .passed) → Heard P (p ∷ t .passed) → c .deadline ≡ clockUsed K connections (M .view (t .state)) a + lifeOf (c .stage) → 1 ≤ lifeOf (c .stage) → Table-kept (afterSegment M s₀ P t q place p)
+      segment-kept :
+          (place : ℕ) (c : Connection) →
+          OurEntry P (M .view (M .run (t .state) q .next)) place c → OthersExpired P (M .view (M .run (t .state) q .next)) place →
+          Holds c (p ∷ t .passed) → Heard P (p ∷ t .passed) →
+          c .deadline ≡ clockUsed K connections (M .view (t .state)) a + lifeOf (c .stage) → 1 ≤ lifeOf (c .stage) →
+          Table-kept (afterSegment M t q place p)
       segment-kept place c ours others holds heard deadline life =
-          let more : (if passes M s₀ P t q then p ∷ t .passed else t .passed) ≡ p ∷ t .passed = if-true _ _ _ e in
+          let more : (if passes M t q then p ∷ t .passed else t .passed) ≡ p ∷ t .passed = if-true _ _ _ e in
           record {
             sound = keeps .sound-kept (t .state) q (kept .sound);
-            clock = clock-after e;
+            clock = clock-after (asked a read e) e;
             phase = alive refl c record {
               ours = ours;
               others = others;
@@ -188,7 +231,10 @@ module _ {K : Keys} (M : Machine K) (Sound : M .State → Type 0) (keeps : Keeps
           }
 
       -- the opening
-      pub opening-kept : AskOf P 0 a → p .from ≡ 0 → p .flags ≡ SYN → Formed p → p .start ≡ P .start 0 → t .passed ≡ [] → search K connections (M .view (t .state)) a ≡ length (M .view (t .state) .entries) → Table-kept (afterSegment M s₀ P t q (M .run (t .state) q .place) p)
+      pub opening-kept :
+          AskOf P 0 a → p .from ≡ 0 → p .flags ≡ SYN → Formed p → p .start ≡ P .start 0 → t .passed ≡ [] →
+          search K connections (M .view (t .state)) a ≡ length (M .view (t .state) .entries) →
+          Table-kept (afterSegment M t q (M .run (t .state) q .place) p)
       opening-kept asked-0 opener a-syn formed begins none unfound =
           let made = opening-made P known (M .view (t .state)) sound-b a asked-0 unfound answer-0 in
           let c : Connection = opened (P .side) (a .segment) (clockUsed K connections (M .view (t .state)) a) in
@@ -202,7 +248,7 @@ module _ {K : Keys} (M : Machine K) (Sound : M .State → Type 0) (keeps : Keeps
 
     -- An arrival at the live entry
 
-    module _ (k : ℕ) (p : LineSegment) (s : ℕ) (a : Ask K) (read : M .reads q ≡ asks a) (brings : a .segment ≡ onWire p) (asked-p : AskOf P (p .from) a) (no-reset : rst (p .flags) ≡ 1 → ⊥) (c : Connection) (al : Alive t c) (live : max (clockIn M s₀ P (M .reads q)) (t .passClock) < t .until) (verdict : verdictOn c (p .from) (onWire p) ≡ Pass) where
+    module _ (p : LineSegment) (a : Ask K) (read : M .reads q ≡ asks a) (brings : a .segment ≡ onWire p) (asked-p : AskOf P (p .from) a) (no-reset : rst (p .flags) ≡ 1 → ⊥) (c : Connection) (al : Alive t c) (live : LiveNow) (verdict : verdictOn c (p .from) (onWire p) ≡ Pass) where
       filter-passes : filter K connections (M .view (t .state)) a ≡ pass K connections (M .view (t .state)) a (t .place) (record { key = P .key; connection = passed c (p .from) (onWire p) (clockUsed K connections (M .view (t .state)) a) })
       unfolding matched
       filter-passes =
@@ -218,11 +264,13 @@ module _ {K : Keys} (M : Machine K) (Sound : M .State → Type 0) (keeps : Keeps
       place-is-ours : M .run (t .state) q .place ≡ t .place
       place-is-ours = keeps .placed (t .state) q a (kept .sound) read ∙ ap (λ (r : Reply K connections). r .place) filter-passes
 
-      arrival-passes : passes M s₀ P t q ≡ true
+      arrival-passes : passes M t q ≡ true
       unfolding passes
       arrival-passes = eq-eqb _ _ answer-is-0
 
-      arrival-kept : ((now : ℕ) → Holds (passed c (p .from) (onWire p) now) (p ∷ t .passed)) → Heard P (p ∷ t .passed) → Table-kept (afterSegment M s₀ P t q (t .place) p)
+      arrival-kept :
+          ((now : ℕ) → Holds (passed c (p .from) (onWire p) now) (p ∷ t .passed)) → Heard P (p ∷ t .passed) →
+          Table-kept (afterSegment M t q (t .place) p)
       arrival-kept holds-after heard-after =
           let now : ℕ = clockUsed K connections (M .view (t .state)) a in
           let c' : Connection = passed c (p .from) (onWire p) (clockUsed K connections (M .view (t .state)) a) in
@@ -239,14 +287,14 @@ module _ {K : Keys} (M : Machine K) (Sound : M .State → Type 0) (keeps : Keeps
   in-more p g h false one = ⊎-elim (λ (new : (p ≡ g) × (false ≡ true)). false-true (new .1)) (λ (old : In p h). old) one
 
   -- what has passed is in the history
-  passed-in : (k : ℕ) (p : LineSegment) (L : List (Event (M .Call))) → Passed M s₀ P k p L → In p (told M s₀ P L .passed)
+  passed-in : (k : ℕ) (p : LineSegment) (L : List (Event (M .Call))) → Passed M s₀ k p L → In p (told M s₀ L .passed)
   unfolding told afterCall
   passed-in k p [] none = absurd none
   passed-in k p (send g ∷ L) was = passed-in k p L was
   passed-in k p (call q (opening j g) ∷ L) was =
-      in-more p g (told M s₀ P L .passed) (passes M s₀ P (told M s₀ P L) q) (⊎-elim (λ new. inl (new .0 .1, new .1)) (λ old. inr (passed-in k p L old)) was)
+      in-more p g (told M s₀ L .passed) (passes M (told M s₀ L) q) (⊎-elim (λ new. inl (new .0 .1, new .1)) (λ old. inr (passed-in k p L old)) was)
   passed-in k p (call q (arrival j g) ∷ L) was =
-      in-more p g (told M s₀ P L .passed) (passes M s₀ P (told M s₀ P L) q) (⊎-elim (λ new. inl (new .0 .1, new .1)) (λ old. inr (passed-in k p L old)) was)
+      in-more p g (told M s₀ L .passed) (passes M (told M s₀ L) q) (⊎-elim (λ new. inl (new .0 .1, new .1)) (λ old. inr (passed-in k p L old)) was)
   passed-in k p (call q other ∷ L) was = ⊎-elim (λ never. absurd (never .0)) (λ old. passed-in k p L old) was
   passed-in k p (delivery j g ∷ L) was = passed-in k p L was
 
@@ -267,22 +315,22 @@ module _ {K : Keys} (M : Machine K) (Sound : M .State → Type 0) (keeps : Keeps
   unfolding told
   after-send p L inv end-known formed honest = record {
     table = inv .table;
-    protocol = protocol-sent P (told M s₀ P L .passed) (λ k g. Arrived M s₀ P k g L) L (inv .protocol) p end-known formed honest;
+    protocol = protocol-sent P (told M s₀ L .passed) (λ k g. Arrived k g L) L (inv .protocol) p end-known formed honest;
   }
 
-  after-delivery : (k : ℕ) (p : LineSegment) (L : List (Event (M .Call))) → Inv L → Passed M s₀ P k p L → Inv (delivery k p ∷ L)
+  after-delivery : (k : ℕ) (p : LineSegment) (L : List (Event (M .Call))) → Inv L → Passed M s₀ k p L → Inv (delivery k p ∷ L)
   unfolding told
   after-delivery k p L inv was = record {
     table = inv .table;
-    protocol = protocol-delivered P (told M s₀ P L .passed) (λ j g. Arrived M s₀ P j g L) L k p (inv .protocol) (passed-in k p L was);
+    protocol = protocol-delivered P (told M s₀ L .passed) (λ j g. Arrived j g L) L k p (inv .protocol) (passed-in k p L was);
   }
 
   after-other : (q : M .Call) (L : List (Event (M .Call))) → Inv L → FairCall M s₀ P other q L → Inv (call q other ∷ L)
   unfolding told afterCall
   after-other q L inv fair =
-      let pr = protocol-called P (told M s₀ P L .passed) (λ j g. Arrived M s₀ P j g L) L (inv .protocol) q other in
+      let pr = protocol-called P (told M s₀ L .passed) (λ j g. Arrived j g L) L (inv .protocol) q other in
       record {
-        table = other-kept (told M s₀ P L) (inv .table) q fair;
+        table = other-kept (told M s₀ L) (inv .table) q fair;
         protocol = record {
           facts = pr .facts;
           order = pr .order;
@@ -293,27 +341,30 @@ module _ {K : Keys} (M : Machine K) (Sound : M .State → Type 0) (keeps : Keeps
       }
 
   -- a segment of the pair's, passed
-  protocol-after : (q : M .Call) (l : Label) (k : ℕ) (p : LineSegment) (L : List (Event (M .Call))) → Inv L → Sent k p L → passes M s₀ P (told M s₀ P L) q ≡ true → (place : ℕ) → Protocol P (afterSegment M s₀ P (told M s₀ P L) q place p .passed) (λ j g. ((j ≡ k) × (g ≡ p)) ⊎ Arrived M s₀ P j g L) (call q l ∷ L)
+  protocol-after :
+      (q : M .Call) (l : Label) (k : ℕ) (p : LineSegment) (L : List (Event (M .Call))) → Inv L → Sent k p L →
+      passes M (told M s₀ L) q ≡ true → (place : ℕ) →
+      Protocol P (afterSegment M (told M s₀ L) q place p .passed) (λ j g. ((j ≡ k) × (g ≡ p)) ⊎ Arrived j g L) (call q l ∷ L)
   protocol-after q l k p L inv sent e place =
       let with-s = sent-with k p L sent in
-      rw (if-true (passes M s₀ P (told M s₀ P L) q) (p ∷ told M s₀ P L .passed) (told M s₀ P L .passed) e)
-      (protocol-passed P (told M s₀ P L .passed) (λ j g. Arrived M s₀ P j g L) L (inv .protocol) q l k p (with-s .0) (with-s .1))
+      rw (if-true (passes M (told M s₀ L) q) (p ∷ told M s₀ L .passed) (told M s₀ L .passed) e)
+      (protocol-passed P (told M s₀ L .passed) (λ j g. Arrived j g L) L (inv .protocol) q l k p (with-s .0) (with-s .1))
 
   after-opening : (q : M .Call) (k : ℕ) (p : LineSegment) (L : List (Event (M .Call))) → Inv L → Opening M s₀ P k p q L → Inv (call q (opening k p) ∷ L)
   unfolding told afterCall
   after-opening q k p L inv o = record {
     table = by-phase (inv .table .phase);
-    protocol = protocol-after q (opening k p) k p L inv (o .arrives .sent) (o .answered-0) (M .run (told M s₀ P L .state) q .place);
+    protocol = protocol-after q (opening k p) k p L inv (o .arrives .sent) (o .answered-0) (M .run (told M s₀ L .state) q .place);
   }
     where
       w : (s : ℕ) × SentWith k p s L
       w = sent-with k p L (o .arrives .sent)
 
-      f : Fact P (told M s₀ P L .passed) p (w .0) L
+      f : Fact P (told M s₀ L .passed) p (w .0) L
       f = inv .protocol .facts k p (w .0) (w .1)
 
       -- nothing has passed, so nothing was received, and what is sent is a SYN
-      is-first : told M s₀ P L .passed ≡ [] → First P p (w .0)
+      is-first : told M s₀ L .passed ≡ [] → First P p (w .0)
       is-first none =
           ⊎-elim (λ (x : First P p (w .0)). x)
           (λ (y : Later p (w .0) L).
@@ -321,40 +372,44 @@ module _ {K : Keys} (M : Machine K) (Sound : M .State → Type 0) (keeps : Keeps
           absurd (subst (In (r .0)) none (inv .protocol .received (p .from) (r .0) (r .1) .0)))
           (f .kind)
 
-      by-phase : Phase (told M s₀ P L) → Table-kept (afterSegment M s₀ P (told M s₀ P L) q (M .run (told M s₀ P L .state) q .place) p)
+      by-phase : Phase (told M s₀ L) → Table-kept (afterSegment M (told M s₀ L) q (M .run (told M s₀ L .state) q .place) p)
       by-phase (dead opened-t late) = false-true (sym (o .first-one) ∙ opened-t)
       by-phase (alive opened-t c al) = false-true (sym (o .first-one) ∙ opened-t)
       by-phase (before closed none) =
           let x = is-first none in
           let ff = first-facts P p (f .formed) (x .rule) in
-          opening-kept (told M s₀ P L) (inv .table) q p _ (o .arrives .brings) refl (o .answered-0)
+          opening-kept (told M s₀ L) (inv .table) q p _ (o .arrives .brings) refl (o .answered-0)
           record { end = omega arith; side = ap (sideOf P) (o .opener); key = ap (keyOf P) (o .opener) }
           (o .opener) (ff .opener (o .opener)) (f .formed) (x .rule .start ∙ ap (P .start) (o .opener)) none (o .finds-none _ (o .arrives .brings))
 
-  after-arrival : (q : M .Call) (k : ℕ) (p : LineSegment) (L : List (Event (M .Call))) → Inv L → Arrival M s₀ P k p q L → (said M s₀ P L q .answer ≡ 0) × (said M s₀ P L q .place ≡ told M s₀ P L .place) × Inv (call q (arrival k p) ∷ L)
+  after-arrival :
+      (q : M .Call) (k : ℕ) (p : LineSegment) (L : List (Event (M .Call))) → Inv L → Arrival M s₀ P k p q L →
+      (said M s₀ L q .answer ≡ 0) × (said M s₀ L q .place ≡ told M s₀ L .place) × Inv (call q (arrival k p) ∷ L)
   unfolding told afterCall
   after-arrival q k p L inv r = by-phase (inv .table .phase)
     where
-      by-phase : Phase (told M s₀ P L) → (said M s₀ P L q .answer ≡ 0) × (said M s₀ P L q .place ≡ told M s₀ P L .place) × Inv (call q (arrival k p) ∷ L)
+      by-phase :
+          Phase (told M s₀ L) →
+          (said M s₀ L q .answer ≡ 0) × (said M s₀ L q .place ≡ told M s₀ L .place) × Inv (call q (arrival k p) ∷ L)
       by-phase (before closed none) = false-true (sym closed ∙ r .after-opening)
       by-phase (dead opened-t late) = absurd (omega (arith, late, r .live))
       by-phase (alive opened-t c al) =
           let w = sent-with k p L (r .arrives .sent) in
           let f = inv .protocol .facts k p (w .0) (w .1) in
-          let x = passing P (told M s₀ P L .passed) (λ j g. Arrived M s₀ P j g L) L (inv .protocol) c (al .holds) k p (w .0) (w .1) (r .in-order) (al .heard) in
+          let x = passing P (told M s₀ L .passed) (λ j g. Arrived j g L) L (inv .protocol) c (al .holds) k p (w .0) (w .1) (r .in-order) (al .heard) in
           let asked-p : AskOf P (p .from) (record { side = sideOf P (p .from); clock = r .arrives .clock; key = keyOf P (p .from); segment = onWire p }) = record { end = f .end-known; side = refl; key = refl } in (
-            answer-is-0 (told M s₀ P L) (inv .table) q k p (w .0) _ (r .arrives .brings) refl asked-p (f .no-reset) c al (r .live) (x .verdict),
-            place-is-ours (told M s₀ P L) (inv .table) q k p (w .0) _ (r .arrives .brings) refl asked-p (f .no-reset) c al (r .live) (x .verdict),
+            answer-is-0 (told M s₀ L) (inv .table) q p _ (r .arrives .brings) refl asked-p (f .no-reset) c al (r .live) (x .verdict),
+            place-is-ours (told M s₀ L) (inv .table) q p _ (r .arrives .brings) refl asked-p (f .no-reset) c al (r .live) (x .verdict),
             record {
-              table = arrival-kept (told M s₀ P L) (inv .table) q k p (w .0) _ (r .arrives .brings) refl asked-p (f .no-reset) c al (r .live) (x .verdict) (x .holds-after) (x .heard-after);
+              table = arrival-kept (told M s₀ L) (inv .table) q p _ (r .arrives .brings) refl asked-p (f .no-reset) c al (r .live) (x .verdict) (x .holds-after) (x .heard-after);
               protocol = protocol-after q (arrival k p) k p L inv (r .arrives .sent)
-                  (arrival-passes (told M s₀ P L) (inv .table) q k p (w .0) _ (r .arrives .brings) refl asked-p (f .no-reset) c al (r .live) (x .verdict)) (told M s₀ P L .place);
+                  (arrival-passes (told M s₀ L) (inv .table) q p _ (r .arrives .brings) refl asked-p (f .no-reset) c al (r .live) (x .verdict)) (told M s₀ L .place);
             },
           )
 
   -- The theorem
 
-  kept-along : Sound s₀ → (L : List (Event (M .Call))) → Legal M s₀ P L → Inv L × NeverBlocked M s₀ P L
+  kept-along : Sound s₀ → (L : List (Event (M .Call))) → Legal M s₀ P L → Inv L × NeverBlocked M s₀ L
   kept-along sound [] legal = (start sound, tt)
   kept-along sound (send p ∷ L) legal =
       let r = kept-along sound L (legal .1) in (after-send p L (r .0) (legal .0 .0) (legal .0 .1) (legal .0 .2), r .1)

@@ -179,10 +179,13 @@ module _ {K : Keys} {Call : Type 0} (P : Pair K) where
     pub kind : First P p s ⊎ Later p s L
     pub snapshot-low : s ≤ p .start
     pub acks-syn : ack (p .flags) ≡ 1 → P .start (1 - p .from) + 1 ≤ p .acked
-    -- I1 to I4
+    -- it ends at or below the edge granted by what has passed, or with its end's SYN
     pub below-edge : endOf p ≤ max (P .start (p .from) + 1) (numbersOf (p .from) h .edge)
+    -- no further past its snapshot than the other end's largest window that has passed
     pub in-window : endOf p ≤ s + numbersOf (1 - p .from) h .win
+    -- it acknowledges no further than what has passed of the other end, or that end's SYN
     pub acks-passed : ack (p .flags) ≡ 1 → p .acked ≤ max (P .start (1 - p .from) + 1) (numbersOf (1 - p .from) h .end)
+    -- its snapshot is no further than the other end's acknowledgements that have passed, or its end's SYN
     pub snapshot-passed : s ≤ max (P .start (p .from) + 1) (highest (ackFrom (1 - p .from)) h)
 
   pub record Protocol (h : List LineSegment) (Arrived : ℕ → LineSegment → Type 0) (L : List (Event Call)) : Type 0 where

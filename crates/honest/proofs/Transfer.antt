@@ -13,13 +13,13 @@ use Rattle.history.specs.History.{LineSegment, stageOf}
 use Rattle.honest.specs.Keys.{Keys}
 use Rattle.honest.specs.Rows.{Table}
 use Rattle.honest.specs.Filter.{connections}
-use Rattle.honest.specs.Machine.{refused, asks, Machine, KeepsTo}
-use Rattle.honest.specs.Rules.{Label, opening, arrival, other, Event, send, call, delivery, Pair, sentBy, Sent, receivedBy, answered, Honest, first, later}
-use Rattle.honest.specs.Honest.{Told, clockIn, passes, nextClock, afterSegment, afterCall, told, said, Live, Is, Arrived, Passed, Arrives, FairCall, Legal}
+use Rattle.honest.specs.Machine.{refused, asks, Machine, clockIn, KeepsTo}
+use Rattle.honest.specs.Rules.{Label, opening, arrival, other, Event, send, call, delivery, Pair, sentBy, Sent, Arrived, receivedBy, answered, Honest, first, later}
+use Rattle.honest.specs.Honest.{Told, passes, nextClock, afterSegment, afterCall, told, said, Live, Passed, Arrives, FairCall, Legal}
 use Rattle.honest.specs.Instance.{ListCall, listMachine}
 use Rattle.honest.specs.Carries.{Carries, none, sent, called, refused-alone, delivered, LegalCarried, withCall, withOther, readings, ifAsked, otherAnswers, shownBy, ShownCarried}
 
--- What ends have sent and received
+-- What ends have sent and received, and what has arrived
 
 module _ {K : Keys} (M : Machine K) where
   abbrev Carrying : Type 0
@@ -51,6 +51,13 @@ module _ {K : Keys} (M : Machine K) where
   sent-carried k p (called is c) was = sent-carried k p c was
   sent-carried k p (refused-alone is c) was = sent-carried k p c was
   sent-carried k p (delivered c) was = sent-carried k p c was
+
+  arrived-carries : (k : ℕ) (p : LineSegment) {L : Carrying} {N : Carried} → Carries M L N → Arrived k p L → Arrived k p N
+  arrived-carries k p none was = was
+  arrived-carries k p (sent c) was = arrived-carries k p c was
+  arrived-carries k p (called is c) was = ⊎-elim (λ this. inl this) (λ before. inr (arrived-carries k p c before)) was
+  arrived-carries k p (refused-alone is c) was = ⊎-elim (λ never. absurd never) (λ before. arrived-carries k p c before) was
+  arrived-carries k p (delivered c) was = arrived-carries k p c was
 
   answered-same : (i : ℕ) {L : Carrying} {N : Carried} → Carries M L N → answered i L ≡ answered i N
   unfolding answered
@@ -90,7 +97,7 @@ module _ {K : Keys} (M : Machine K) where
 
 -- What the calls tell
 
-module _ {K : Keys} (M : Machine K) (Sound : M .State → Type 0) (keeps : KeepsTo K M Sound) (s₀ : M .State) (sound : Sound s₀) (P : Pair K) where
+module _ {K : Keys} (M : Machine K) (Sound : M .State → Type 0) (keeps : KeepsTo K M Sound) (s₀ : M .State) (sound : Sound s₀) where
   abbrev F : Machine K
   F = listMachine K
 
@@ -98,18 +105,18 @@ module _ {K : Keys} (M : Machine K) (Sound : M .State → Type 0) (keeps : Keeps
   t₀ = M .view s₀
 
   -- the same, with the table that the state is
-  abbrev viewed : Told M s₀ P → Told F t₀ P
+  abbrev viewed : Told M → Told F
   viewed t = record { state = M .view (t .state); opened = t .opened; place = t .place; passed = t .passed; passClock = t .passClock; until = t .until }
 
-  module _ (t : Told M s₀ P) (kept : Sound (t .state)) (q : M .Call) (b : ListCall K) (is : M .reads q ≡ asks (b .0)) where
-    same-pass : passes F t₀ P (viewed t) b ≡ passes M s₀ P t q
+  module _ (t : Told M) (kept : Sound (t .state)) (q : M .Call) (b : ListCall K) (is : M .reads q ≡ asks (b .0)) where
+    same-pass : passes F (viewed t) b ≡ passes M t q
     unfolding passes
     same-pass = ap (λ (n : ℕ). n =ᵇ 0) (sym (keeps .answered (t .state) q (b .0) kept is))
 
-    same-clock : nextClock F t₀ P (viewed t) b ≡ nextClock M s₀ P t q
-    same-clock = λ i. if same-pass i then max (clockIn M s₀ P (sym is i)) (t .passClock) else t .passClock
+    same-clock : nextClock F (viewed t) b ≡ nextClock M t q
+    same-clock = λ i. if same-pass i then max (clockIn (sym is i)) (t .passClock) else t .passClock
 
-    same-segment : (x y : ℕ) (p : LineSegment) → y ≡ x → afterSegment F t₀ P (viewed t) b x p ≡ viewed (afterSegment M s₀ P t q y p)
+    same-segment : (x y : ℕ) (p : LineSegment) → y ≡ x → afterSegment F (viewed t) b x p ≡ viewed (afterSegment M t q y p)
     same-segment x y p e = λ i. record {
       state = sym (keeps .left (t .state) q (b .0) kept is) i;
       opened = true;
@@ -119,7 +126,7 @@ module _ {K : Keys} (M : Machine K) (Sound : M .State → Type 0) (keeps : Keeps
       until = if same-pass i then same-clock i + lifeOf (stageOf (p ∷ t .passed)) else t .until;
     }
 
-    same-after : (l : Label) → afterCall F t₀ P (viewed t) b l ≡ viewed (afterCall M s₀ P t q l)
+    same-after : (l : Label) → afterCall F (viewed t) b l ≡ viewed (afterCall M t q l)
     unfolding afterCall
     same-after (opening k p) = same-segment _ _ p (keeps .placed (t .state) q (b .0) kept is)
     same-after (arrival k p) = same-segment _ _ p refl
@@ -133,32 +140,32 @@ module _ {K : Keys} (M : Machine K) (Sound : M .State → Type 0) (keeps : Keeps
     }
 
   -- a refused call is blocked and tells nothing
-  module _ (t : Told M s₀ P) (kept : Sound (t .state)) (q : M .Call) (n p : ℕ) (is : M .reads q ≡ refused n p) where
+  module _ (t : Told M) (kept : Sound (t .state)) (q : M .Call) (n p : ℕ) (is : M .reads q ≡ refused n p) where
     refused-not-0 : M .run (t .state) q .answer ≡ 0 → ⊥
     refused-not-0 e = keeps .refusal-blocks q n p is (sym (keeps .refusal-answered (t .state) q n p kept is) ∙ e)
 
-    refused-no-pass : passes M s₀ P t q ≡ false
+    refused-no-pass : passes M t q ≡ false
     unfolding passes
     refused-no-pass = ne-eqb _ 0 refused-not-0
 
-    refused-tells-nothing : t ≡ afterCall M s₀ P t q other
+    refused-tells-nothing : viewed t ≡ viewed (afterCall M t q other)
     unfolding afterCall if_then_else_
     refused-tells-nothing = λ i. record {
       state = sym (keeps .blocked-keeps (t .state) q refused-not-0) i;
       opened = t .opened;
       place = t .place;
       passed = t .passed;
-      passClock = if sym refused-no-pass i then max (clockIn M s₀ P (M .reads q)) (t .passClock) else t .passClock;
+      passClock = if sym refused-no-pass i then max (clockIn (M .reads q)) (t .passClock) else t .passClock;
       until = t .until;
     }
 
-  after-sound : (t : Told M s₀ P) → Sound (t .state) → (q : M .Call) (l : Label) → Sound (afterCall M s₀ P t q l .state)
+  after-sound : (t : Told M) → Sound (t .state) → (q : M .Call) (l : Label) → Sound (afterCall M t q l .state)
   unfolding afterCall
   after-sound t kept q (opening k p) = keeps .sound-kept (t .state) q kept
   after-sound t kept q (arrival k p) = keeps .sound-kept (t .state) q kept
   after-sound t kept q other = keeps .sound-kept (t .state) q kept
 
-  told-sound : {L : Carrying M} {N : Carried M} → Carries M L N → Sound (told M s₀ P L .state)
+  told-sound : {L : Carrying M} {N : Carried M} → Carries M L N → Sound (told M s₀ L .state)
   unfolding told
   told-sound none = sound
   told-sound (sent c) = told-sound c
@@ -166,106 +173,93 @@ module _ {K : Keys} (M : Machine K) (Sound : M .State → Type 0) (keeps : Keeps
   told-sound (refused-alone {q = q} is c) = after-sound _ (told-sound c) q other
   told-sound (delivered c) = told-sound c
 
-  told-same : {L : Carrying M} {N : Carried M} → Carries M L N → told F t₀ P N ≡ viewed (told M s₀ P L)
+  told-same : {L : Carrying M} {N : Carried M} → Carries M L N → told F t₀ N ≡ viewed (told M s₀ L)
   unfolding told
   told-same none = refl
   told-same (sent c) = told-same c
   told-same (called {q = q} {b = b} {l = l} is c) =
-      ap (λ (t : Told F t₀ P). afterCall F t₀ P t b l) (told-same c) ∙ same-after _ (told-sound c) q b is l
-  told-same (refused-alone {q = q} {n = n} {p = p} is c) = told-same c ∙ ap viewed (refused-tells-nothing _ (told-sound c) q n p is)
+      ap (λ (t : Told F). afterCall F t b l) (told-same c) ∙ same-after _ (told-sound c) q b is l
+  told-same (refused-alone {q = q} {n = n} {p = p} is c) = told-same c ∙ refused-tells-nothing _ (told-sound c) q n p is
   told-same (delivered c) = told-same c
 
   -- What is asked of each event
 
-  -- a label says the same of either machine
-  is-same : (l : Label) (k : ℕ) (p : LineSegment) → Is M s₀ P l k p ≡ Is F t₀ P l k p
-  is-same (opening j g) k p = refl
-  is-same (arrival j g) k p = refl
-  is-same other k p = refl
-
-  arrived-carries : (k : ℕ) (p : LineSegment) {L : Carrying M} {N : Carried M} → Carries M L N → Arrived M s₀ P k p L → Arrived F t₀ P k p N
-  arrived-carries k p none was = was
-  arrived-carries k p (sent c) was = arrived-carries k p c was
-  arrived-carries k p (called {l = l} is c) was = ⊎-elim (λ this. inl (rw (is-same l k p) at this)) (λ before. inr (arrived-carries k p c before)) was
-  arrived-carries k p (refused-alone is c) was = ⊎-elim (λ never. absurd never) (λ before. arrived-carries k p c before) was
-  arrived-carries k p (delivered c) was = arrived-carries k p c was
-
   module _ {L : Carrying M} {N : Carried M} (c : Carries M L N) where
-    view-same : M .view (told M s₀ P L .state) ≡ told F t₀ P N .state
-    view-same = ap (λ (t : Told F t₀ P). t .state) (sym (told-same c))
+    view-same : M .view (told M s₀ L .state) ≡ told F t₀ N .state
+    view-same = ap (λ (t : Told F). t .state) (sym (told-same c))
 
-    opened-same : told M s₀ P L .opened ≡ told F t₀ P N .opened
-    opened-same = ap (λ (t : Told F t₀ P). t .opened) (sym (told-same c))
+    opened-same : told M s₀ L .opened ≡ told F t₀ N .opened
+    opened-same = ap (λ (t : Told F). t .opened) (sym (told-same c))
 
-    place-same : told M s₀ P L .place ≡ told F t₀ P N .place
-    place-same = ap (λ (t : Told F t₀ P). t .place) (sym (told-same c))
+    place-same : told M s₀ L .place ≡ told F t₀ N .place
+    place-same = ap (λ (t : Told F). t .place) (sym (told-same c))
 
     module _ (q : M .Call) (b : ListCall K) (is : M .reads q ≡ asks (b .0)) where
-      said-answer-same : said M s₀ P L q .answer ≡ said F t₀ P N b .answer
+      said-answer-same : said M s₀ L q .answer ≡ said F t₀ N b .answer
       said-answer-same = keeps .answered _ q (b .0) (told-sound c) is ∙ ap (λ (t : Table K connections). F .run t b .answer) view-same
 
-      said-place-same : said M s₀ P L q .place ≡ said F t₀ P N b .place
+      said-place-same : said M s₀ L q .place ≡ said F t₀ N b .place
       said-place-same = keeps .placed _ q (b .0) (told-sound c) is ∙ ap (λ (t : Table K connections). F .run t b .place) view-same
 
-      passes-same : passes M s₀ P (told M s₀ P L) q ≡ passes F t₀ P (told F t₀ P N) b
+      passes-same : passes M (told M s₀ L) q ≡ passes F (told F t₀ N) b
       unfolding passes
       passes-same = ap (λ (n : ℕ). n =ᵇ 0) said-answer-same
 
-      live-same : Live M s₀ P q L ≡ Live F t₀ P b N
-      live-same = λ i. max (clockIn M s₀ P (is i)) (sym (told-same c) i .passClock) < sym (told-same c) i .until
+      live-same : Live M s₀ q L ≡ Live F t₀ b N
+      live-same = λ i. max (clockIn (is i)) (sym (told-same c) i .passClock) < sym (told-same c) i .until
 
-      arrives-carried : (k : ℕ) (p : LineSegment) → Arrives F t₀ P k p b N → Arrives M s₀ P k p q L
-      arrives-carried k p a = record { sent = sent-carried M k p c (a .sent); clock = a .clock; brings = is ∙ a .brings }
+      arrives-carried : (P : Pair K) (k : ℕ) (p : LineSegment) → Arrives F P k p b N → Arrives M P k p q L
+      arrives-carried P k p a = record { sent = sent-carried M k p c (a .sent); clock = a .clock; brings = is ∙ a .brings }
 
-      fair-call-carried : (l : Label) → FairCall F t₀ P l b N → FairCall M s₀ P l q L
-      fair-call-carried (opening k p) o = record {
+      fair-call-carried : (P : Pair K) (l : Label) → FairCall F t₀ P l b N → FairCall M s₀ P l q L
+      fair-call-carried P (opening k p) o = record {
         first-one = opened-same ∙ o .first-one;
-        arrives = arrives-carried k p (o .arrives);
+        arrives = arrives-carried P k p (o .arrives);
         opener = o .opener;
         finds-none = λ a asked. rw view-same (o .finds-none a (sym is ∙ asked));
         answered-0 = passes-same ∙ o .answered-0;
       }
-      fair-call-carried (arrival k p) r = record {
+      fair-call-carried P (arrival k p) r = record {
         after-opening = opened-same ∙ r .after-opening;
-        arrives = arrives-carried k p (r .arrives);
-        in-order = λ j g was. r .in-order j g (arrived-carries j g c was);
+        arrives = arrives-carried P k p (r .arrives);
+        in-order = λ j g was. r .in-order j g (arrived-carries M j g c was);
         live = rw live-same (r .live);
       }
-      fair-call-carried other elsewhere =
+      fair-call-carried P other elsewhere =
           λ opened live pass place. elsewhere (sym opened-same ∙ opened) (rw live-same at live) (sym passes-same ∙ pass) (sym said-place-same ∙ place ∙ place-same)
 
-  passed-carried : (k : ℕ) (p : LineSegment) {L : Carrying M} {N : Carried M} → Carries M L N → Passed F t₀ P k p N → Passed M s₀ P k p L
+  passed-carried : (k : ℕ) (p : LineSegment) {L : Carrying M} {N : Carried M} → Carries M L N → Passed F t₀ k p N → Passed M s₀ k p L
   passed-carried k p none was = was
   passed-carried k p (sent c) was = passed-carried k p c was
   passed-carried k p (called {q = q} {b = b} {l = l} is c) was =
-      ⊎-elim (λ this. inl (rw (is-same l k p) (this .0), passes-same c q b is ∙ this .1)) (λ before. inr (passed-carried k p c before)) was
+      ⊎-elim (λ this. inl (this .0, passes-same c q b is ∙ this .1)) (λ before. inr (passed-carried k p c before)) was
   passed-carried k p (refused-alone is c) was = inr (passed-carried k p c was)
   passed-carried k p (delivered c) was = passed-carried k p c was
 
   -- The theorems
 
-  legal-along : {L : Carrying M} {N : Carried M} → Carries M L N → Legal F t₀ P N → Legal M s₀ P L
-  legal-along none legal = tt
-  legal-along (sent {p = p} c) legal = ((legal .0 .0, legal .0 .1, honest-carried M P p c (legal .0 .2)), legal-along c (legal .1))
-  legal-along (called {q = q} {b = b} {l = l} is c) legal = (fair-call-carried c q b is l (legal .0), legal-along c (legal .1))
-  legal-along (refused-alone {q = q} {n = n} {p = p} is c) legal =
-      (λ opened live pass place. false-true (sym (refused-no-pass _ (told-sound c) q n p is) ∙ pass), legal-along c legal)
-  legal-along (delivered {k = k} {p = p} c) legal = (passed-carried k p c (legal .0), legal-along c (legal .1))
+  legal-along : (P : Pair K) {L : Carrying M} {N : Carried M} → Carries M L N → Legal F t₀ P N → Legal M s₀ P L
+  legal-along P none legal = tt
+  legal-along P (sent {p = p} c) legal = ((legal .0 .0, legal .0 .1, honest-carried M P p c (legal .0 .2)), legal-along P c (legal .1))
+  legal-along P (called {q = q} {b = b} {l = l} is c) legal = (fair-call-carried c q b is P l (legal .0), legal-along P c (legal .1))
+  legal-along P (refused-alone {q = q} {n = n} {p = p} is c) legal =
+      (λ opened live pass place. false-true (sym (refused-no-pass _ (told-sound c) q n p is) ∙ pass), legal-along P c legal)
+  legal-along P (delivered {k = k} {p = p} c) legal = (passed-carried k p c (legal .0), legal-along P c (legal .1))
 
-  others-same : {L : Carrying M} {N : Carried M} → Carries M L N → otherAnswers M s₀ P L ≡ otherAnswers F t₀ P N
+  others-same : {L : Carrying M} {N : Carried M} → Carries M L N → otherAnswers M s₀ L ≡ otherAnswers F t₀ N
   others-same none = refl
   others-same (sent c) = others-same c
   others-same (called {l = opening k p} is c) = others-same c
   others-same (called {l = arrival k p} is c) = others-same c
   others-same (called {q = q} {b = b} {l = other} is c) = λ i. ifAsked (is i) (said-answer-same c q b is i) (others-same c i)
-  others-same (refused-alone {q = q} {L = L} is c) = ap (λ r. ifAsked r (said M s₀ P L q .answer) (otherAnswers M s₀ P L)) is ∙ others-same c
+  others-same (refused-alone {q = q} {L = L} is c) = ap (λ r. ifAsked r (said M s₀ L q .answer) (otherAnswers M s₀ L)) is ∙ others-same c
   others-same (delivered c) = others-same c
 
-  shown-along : {L : Carrying M} {N : Carried M} → Carries M L N → shownBy M s₀ P L ≡ shownBy F t₀ P N
+  shown-along : {L : Carrying M} {N : Carried M} → Carries M L N → shownBy M s₀ L ≡ shownBy F t₀ N
   shown-along c = λ i. record { others = reverse (others-same c i); place = place-same c i; stage = stageOf (sym (told-same c) i .passed) }
 
 pub legal-carried : {K : Keys} (M : Machine K) (Sound : M .State → Type 0) → KeepsTo K M Sound → LegalCarried M Sound
 legal-carried M Sound keeps s₀ sound P L N carries legal = legal-along M Sound keeps s₀ sound P carries legal
 
 pub shown-carried : {K : Keys} (M : Machine K) (Sound : M .State → Type 0) → KeepsTo K M Sound → ShownCarried M Sound
-shown-carried M Sound keeps s₀ sound P L N carries = shown-along M Sound keeps s₀ sound P carries
+shown-carried M Sound keeps s₀ sound L N carries = shown-along M Sound keeps s₀ sound carries

@@ -23,16 +23,18 @@ use Rattle.honest.specs.Witness.{ends, witness}
 use Rattle.honest.proofs.Check.{legal?, legal?-sound}
 use Rattle.honest.proofs.Instance.{demand3-list, fresh-sound}
 
-computed : (legal? empty ends witness ≡ true) × (shownBy (listMachine IPv4) empty ends witness ≡ record { others = 0 ∷ 11 ∷ 14 ∷ 0 ∷ []; place = 1; stage = 5 })
+computed :
+    (legal? empty ends witness ≡ true)
+    × (shownBy (listMachine IPv4) empty witness ≡ record { others = 0 ∷ 11 ∷ 14 ∷ 0 ∷ []; place = 1; stage = 5 })
 unfolding if_then_else_ wrap ringPlus ringMinus standing further sent granted written sequenceMet ackMet lifeOf withFin finsAfter openStage stageAfter sameSyn reply verdictUnanswered verdictByRanges verdictOn opened repeated answered carried passed finsOf stageOf matches senderOf firstFrom unmatched matched filter sentBy receivedBy highest some passes afterCall told Rules.answered
 computed = (refl, refl)
 
 pub witness-legal : Legal (listMachine IPv4) empty ends witness
 witness-legal = legal?-sound empty ends witness (computed .0)
 
-pub witness-passes : NeverBlocked (listMachine IPv4) empty ends witness
+pub witness-passes : NeverBlocked (listMachine IPv4) empty witness
 witness-passes = demand3-list IPv4 empty (fresh-sound IPv4 64) ends (omega arith) witness witness-legal
 
 -- of the calls that are no arrivals, the two openings pass and the two others are blocked; every FIN has passed
-pub witness-shows : shownBy (listMachine IPv4) empty ends witness ≡ record { others = 0 ∷ 11 ∷ 14 ∷ 0 ∷ []; place = 1; stage = 5 }
+pub witness-shows : shownBy (listMachine IPv4) empty witness ≡ record { others = 0 ∷ 11 ∷ 14 ∷ 0 ∷ []; place = 1; stage = 5 }
 witness-shows = computed .1

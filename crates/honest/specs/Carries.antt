@@ -7,7 +7,7 @@ use mathlib.Core.List.{List, [], _∷_, reverse}
 use Rattle.history.specs.History.{LineSegment, stageOf}
 use Rattle.honest.specs.Keys.{Keys}
 use Rattle.honest.specs.Rows.{Ask}
-use Rattle.honest.specs.Machine.{Reading, refused, asks, Machine}
+use Rattle.honest.specs.Machine.{Reading, refused, asks, apart, Machine}
 use Rattle.honest.specs.Rules.{Label, opening, arrival, other, Event, send, call, delivery, Pair}
 use Rattle.honest.specs.Honest.{told, said, Legal}
 use Rattle.honest.specs.Instance.{ListCall, listMachine}
@@ -50,16 +50,17 @@ pub record Shown : Type 0 where
   pub place : ℕ
   pub stage : ℕ
 
--- an answer before others, unless its call is refused before any connection is looked for
+-- an answer before others, if its call asks something
 abbrev pub ifAsked : {A : Type 0} → Reading A → ℕ → List ℕ → List ℕ
 ifAsked (refused n p) answer l = l
 ifAsked (asks a) answer l = answer ∷ l
+ifAsked apart answer l = l
 
-module _ {K : Keys} (M : Machine K) (s₀ : M .State) (P : Pair K) where
+module _ {K : Keys} (M : Machine K) (s₀ : M .State) where
   -- newest first
   abbrev pub otherAnswers : List (Event (M .Call)) → List ℕ
   otherAnswers [] = []
-  otherAnswers (call q other ∷ L) = ifAsked (M .reads q) (said M s₀ P L q .answer) (otherAnswers L)
+  otherAnswers (call q other ∷ L) = ifAsked (M .reads q) (said M s₀ L q .answer) (otherAnswers L)
   otherAnswers (call q (opening k p) ∷ L) = otherAnswers L
   otherAnswers (call q (arrival k p) ∷ L) = otherAnswers L
   otherAnswers (send p ∷ L) = otherAnswers L
@@ -67,7 +68,7 @@ module _ {K : Keys} (M : Machine K) (s₀ : M .State) (P : Pair K) where
 
   -- by what the calls tell
   abbrev pub shownBy : List (Event (M .Call)) → Shown
-  shownBy L = record { others = reverse (otherAnswers L); place = told M s₀ P L .place; stage = stageOf (told M s₀ P L .passed) }
+  shownBy L = record { others = reverse (otherAnswers L); place = told M s₀ L .place; stage = stageOf (told M s₀ L .passed) }
 
 -- The claims: of a machine, from every sound state, for every list that carries another
 
@@ -81,5 +82,5 @@ module _ {K : Keys} (M : Machine K) (Sound : M .State → Type 0) where
   -- it shows the same
   abbrev pub ShownCarried : Type 0
   ShownCarried =
-      (s₀ : M .State) → Sound s₀ → (P : Pair K) → (L : List (Event (M .Call))) (N : List (Event (ListCall K))) → Carries M L N →
-      shownBy M s₀ P L ≡ shownBy (listMachine K) (M .view s₀) P N
+      (s₀ : M .State) → Sound s₀ → (L : List (Event (M .Call))) (N : List (Event (ListCall K))) → Carries M L N →
+      shownBy M s₀ L ≡ shownBy (listMachine K) (M .view s₀) N

@@ -8,7 +8,7 @@ use Rattle.honest.specs.Keys.{Keys}
 use Rattle.honest.specs.Rows.{Bodies, Ask, Table, Reply, freeEntry, filter}
 use Rattle.honest.specs.Filter.{connections}
 use Rattle.honest.specs.Histories.{histories, Stands}
-use Rattle.honest.specs.Machine.{Reading, refused, asks, Machine}
+use Rattle.honest.specs.Machine.{Reading, refused, asks, apart, Machine}
 
 module _ (K : Keys) (B : Bodies) (n : ℕ) where
   -- the fresh table: n free places
@@ -47,12 +47,13 @@ Demand2 K = (n : ℕ) (l : List (Ask K)) → AllPlaceable l → FollowsHistories
 
 -- And of a machine
 
--- with a call, if it is well formed
+-- with a call, if it asks something
 abbrev pub withAsk : {K : Keys} → Reading (Ask K) → List (Ask K) → List (Ask K)
 withAsk (refused n p) l = l
 withAsk (asks a) l = a ∷ l
+withAsk apart l = l
 
--- a machine's well-formed calls, as the filter is asked
+-- a machine's calls, as the filter is asked
 unfoldable pub asked : {K : Keys} (M : Machine K) → List (M .Call) → List (Ask K)
 asked M [] = []
 asked M (q ∷ l) = withAsk (M .reads q) (asked M l)
@@ -63,14 +64,19 @@ module _ {K : Keys} (M : Machine K) (s₀ : M .State) where
   stateAfter [] = s₀
   stateAfter (q ∷ l) = M .run (stateAfter l) q .next
 
-  -- after a list of calls the machine's table stands for the histories'; a next call that is well formed has their answer and place, and
-  -- any other those of its refusal
+  -- after a list of calls the machine's table stands for the histories'; a next call that asks has their answer and place, one that is
+  -- refused those of its refusal, and one on another part of the table leaves this one as it is
   pub record MachineFollows (n : ℕ) (l : List (M .Call)) : Type 0 where
     pub table : TableStands (M .view (stateAfter l)) (tableAfter K histories n (asked M l))
-    pub answer : (q : M .Call) (a : Ask K) → M .reads q ≡ asks a → M .run (stateAfter l) q .answer ≡ replyAfter K histories n (asked M l) a .answer
-    pub place : (q : M .Call) (a : Ask K) → M .reads q ≡ asks a → M .run (stateAfter l) q .place ≡ replyAfter K histories n (asked M l) a .place
+    pub answer :
+        (q : M .Call) (a : Ask K) → M .reads q ≡ asks a →
+        M .run (stateAfter l) q .answer ≡ replyAfter K histories n (asked M l) a .answer
+    pub place :
+        (q : M .Call) (a : Ask K) → M .reads q ≡ asks a →
+        M .run (stateAfter l) q .place ≡ replyAfter K histories n (asked M l) a .place
     pub refusal-answer : (q : M .Call) (m p : ℕ) → M .reads q ≡ refused m p → M .run (stateAfter l) q .answer ≡ m
     pub refusal-place : (q : M .Call) (m p : ℕ) → M .reads q ≡ refused m p → M .run (stateAfter l) q .place ≡ p
+    pub apart-stays : (q : M .Call) → M .reads q ≡ apart → M .view (M .run (stateAfter l) q .next) ≡ M .view (stateAfter l)
 
 -- from every sound state that is a fresh table, for every list of calls
 abbrev pub Demand2Of : {K : Keys} (M : Machine K) → (M .State → Type 0) → Type 0

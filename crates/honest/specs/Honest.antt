@@ -11,21 +11,15 @@ use Rattle.history.specs.History.{LineSegment, onWire, stageOf, Formed}
 use Rattle.honest.specs.Keys.{Keys}
 use Rattle.honest.specs.Rows.{Ask, search, nowhere}
 use Rattle.honest.specs.Filter.{connections}
-use Rattle.honest.specs.Machine.{Said, Reading, refused, asks, Machine}
-use Rattle.honest.specs.Rules.{Label, opening, arrival, other, Event, send, call, delivery, Pair, Sent, sideOf, keyOf, Honest}
+use Rattle.honest.specs.Machine.{Said, asks, Machine, clockIn}
+use Rattle.honest.specs.Rules.{Label, opening, arrival, other, Is, Event, send, call, delivery, Pair, Sent, Arrived, InOrder, sideOf, keyOf, Honest}
 
--- The list
-
-module _ {K : Keys} (M : Machine K) (s₀ : M .State) (P : Pair K) where
+module _ {K : Keys} (M : Machine K) where
   abbrev pub Events : Type 0
   Events = List (Event (M .Call))
 
-  -- the clock given; of a refused call it is of no account
-  abbrev pub clockIn : Reading (Ask K) → ℕ
-  clockIn (refused n p) = 0
-  clockIn (asks a) = a .clock
+  -- What the calls tell
 
-  -- what the calls tell
   pub record Told : Type 0 where
     -- the table that the last call left
     pub state : M .State
@@ -69,86 +63,82 @@ module _ {K : Keys} (M : Machine K) (s₀ : M .State) (P : Pair K) where
     until = t .until;
   }
 
-  -- each call is lent the table that the last one left
-  unfoldable pub told : Events → Told
-  told [] = record { state = s₀; opened = false; place = nowhere; passed = []; passClock = 0; until = 0 }
-  told (send p ∷ L) = told L
-  told (call q l ∷ L) = afterCall (told L) q l
-  told (delivery k p ∷ L) = told L
+  module _ (s₀ : M .State) where
+    -- each call is lent the table that the last one left
+    unfoldable pub told : Events → Told
+    told [] = record { state = s₀; opened = false; place = nowhere; passed = []; passClock = 0; until = 0 }
+    told (send p ∷ L) = told L
+    told (call q l ∷ L) = afterCall (told L) q l
+    told (delivery k p ∷ L) = told L
 
-  abbrev pub said : Events → M .Call → Said (M .State)
-  said L q = M .run (told L .state) q
+    abbrev pub said : Events → M .Call → Said (M .State)
+    said L q = M .run (told L .state) q
 
-  -- the connection is live at a call, told from the calls: the larger of its clock and the pass clock is under that
-  abbrev pub Live : M .Call → Events → Type 0
-  Live q L = max (clockIn (M .reads q)) (told L .passClock) < told L .until
+    -- live at a call, told from the calls: the larger of the call's clock and the pass clock is under the connection's `until`
+    abbrev pub Live : M .Call → Events → Type 0
+    Live q L = max (clockIn (M .reads q)) (told L .passClock) < told L .until
 
-  -- the call is an arrival of its end's k-th sending, p
-  abbrev pub Is : Label → ℕ → LineSegment → Type 0
-  Is (opening j g) k p = (k ≡ j) × (p ≡ g)
-  Is (arrival j g) k p = (k ≡ j) × (p ≡ g)
-  Is other k p = ⊥
-
-  -- an arrival of it, the opening or a later one; and one that was answered 0
-  abbrev pub Arrived : ℕ → LineSegment → Events → Type 0
-  Arrived k p [] = ⊥
-  Arrived k p (send g ∷ L) = Arrived k p L
-  Arrived k p (call q l ∷ L) = Is l k p ⊎ Arrived k p L
-  Arrived k p (delivery j g ∷ L) = Arrived k p L
-
-  abbrev pub Passed : ℕ → LineSegment → Events → Type 0
-  Passed k p [] = ⊥
-  Passed k p (send g ∷ L) = Passed k p L
-  Passed k p (call q l ∷ L) = (Is l k p × (passes (told L) q ≡ true)) ⊎ Passed k p L
-  Passed k p (delivery j g ∷ L) = Passed k p L
+    -- an arrival of an end's k-th sending, p, was answered 0
+    abbrev pub Passed : ℕ → LineSegment → Events → Type 0
+    Passed k p [] = ⊥
+    Passed k p (send g ∷ L) = Passed k p L
+    Passed k p (call q l ∷ L) = (Is l k p × (passes (told L) q ≡ true)) ⊎ Passed k p L
+    Passed k p (delivery j g ∷ L) = Passed k p L
 
   -- What is asked of each event, by those before it
 
   -- the call brings its end's k-th sending, sent before: its numbers modulo 2^32, with that end's side and a clock
-  pub record Arrives (k : ℕ) (p : LineSegment) (q : M .Call) (L : Events) : Type 0 where
+  pub record Arrives (P : Pair K) (k : ℕ) (p : LineSegment) (q : M .Call) (L : Events) : Type 0 where
     pub sent : Sent k p L
     pub clock : ℕ
     pub brings : M .reads q ≡ asks (record { side = sideOf P (p .from); clock = clock; key = keyOf P (p .from); segment = onWire p })
 
-  -- the opening: an arrival of the opener's SYN that finds no live match and is answered 0
-  pub record Opening (k : ℕ) (p : LineSegment) (q : M .Call) (L : Events) : Type 0 where
-    pub first-one : told L .opened ≡ false
-    pub arrives : Arrives k p q L
-    pub opener : p .from ≡ 0
-    pub finds-none : (a : Ask K) → M .reads q ≡ asks a → search K connections (M .view (told L .state)) a ≡ length (M .view (told L .state) .entries)
-    pub answered-0 : passes (told L) q ≡ true
+  module _ (s₀ : M .State) (P : Pair K) where
+    -- the opening: an arrival of the opener's SYN that finds no live match and is answered 0
+    pub record Opening (k : ℕ) (p : LineSegment) (q : M .Call) (L : Events) : Type 0 where
+      pub first-one : told s₀ L .opened ≡ false
+      pub arrives : Arrives P k p q L
+      pub opener : p .from ≡ 0
+      pub finds-none :
+          (a : Ask K) → M .reads q ≡ asks a →
+          search K connections (M .view (told s₀ L .state)) a ≡ length (M .view (told s₀ L .state) .entries)
+      pub answered-0 : passes (told s₀ L) q ≡ true
 
-  -- an arrival after it: each end's arrivals are its sendings in order, some left out, some several times in a row
-  pub record Arrival (k : ℕ) (p : LineSegment) (q : M .Call) (L : Events) : Type 0 where
-    pub after-opening : told L .opened ≡ true
-    pub arrives : Arrives k p q L
-    pub in-order : (j : ℕ) (g : LineSegment) → Arrived j g L → g .from ≡ p .from → j ≤ k
-    pub live : Live q L
+    -- an arrival after it
+    pub record Arrival (k : ℕ) (p : LineSegment) (q : M .Call) (L : Events) : Type 0 where
+      pub after-opening : told s₀ L .opened ≡ true
+      pub arrives : Arrives P k p q L
+      pub in-order : InOrder (λ j g. Arrived j g L) (p .from) k
+      pub live : Live s₀ q L
 
-  abbrev pub FairCall : Label → M .Call → Events → Type 0
-  FairCall (opening k p) q L = Opening k p q L
-  FairCall (arrival k p) q L = Arrival k p q L
-  -- any other call is not passed on the opening's entry; once that has expired, its place may be another's
-  FairCall other q L = told L .opened ≡ true → Live q L → passes (told L) q ≡ true → said L q .place ≡ told L .place → ⊥
+    abbrev pub FairCall : Label → M .Call → Events → Type 0
+    FairCall (opening k p) q L = Opening k p q L
+    FairCall (arrival k p) q L = Arrival k p q L
+    -- any other call is not passed on the opening's entry; once that has expired, its place may be another's
+    FairCall other q L = told s₀ L .opened ≡ true → Live s₀ q L → passes (told s₀ L) q ≡ true → said s₀ L q .place ≡ told s₀ L .place → ⊥
 
-  abbrev pub Fair : Event (M .Call) → Events → Type 0
-  Fair (send p) L = (p .from < 2) × Formed p × Honest P p L
-  Fair (call q l) L = FairCall l q L
-  Fair (delivery k p) L = Passed k p L
+    abbrev pub Fair : Event (M .Call) → Events → Type 0
+    Fair (send p) L = (p .from < 2) × Formed p × Honest P p L
+    Fair (call q l) L = FairCall l q L
+    Fair (delivery k p) L = Passed s₀ k p L
 
-  abbrev pub Legal : Events → Type 0
-  Legal [] = Unit {0}
-  Legal (x ∷ L) = Fair x L × Legal L
+    abbrev pub Legal : Events → Type 0
+    Legal [] = Unit {0}
+    Legal (x ∷ L) = Fair x L × Legal L
+
+  -- The claim
 
   -- each arrival after the opening has answer 0 and the same table place as the opening
-  abbrev pub NeverBlocked : Events → Type 0
-  NeverBlocked [] = Unit {0}
-  NeverBlocked (send p ∷ L) = NeverBlocked L
-  NeverBlocked (call q (opening k p) ∷ L) = NeverBlocked L
-  NeverBlocked (call q (arrival k p) ∷ L) = (said L q .answer ≡ 0) × (said L q .place ≡ told L .place) × NeverBlocked L
-  NeverBlocked (call q other ∷ L) = NeverBlocked L
-  NeverBlocked (delivery k p ∷ L) = NeverBlocked L
+  abbrev pub NeverBlocked : M .State → Events → Type 0
+  NeverBlocked s₀ [] = Unit {0}
+  NeverBlocked s₀ (send p ∷ L) = NeverBlocked s₀ L
+  NeverBlocked s₀ (call q (opening k p) ∷ L) = NeverBlocked s₀ L
+  NeverBlocked s₀ (call q (arrival k p) ∷ L) = (said s₀ L q .answer ≡ 0) × (said s₀ L q .place ≡ told s₀ L .place) × NeverBlocked s₀ L
+  NeverBlocked s₀ (call q other ∷ L) = NeverBlocked s₀ L
+  NeverBlocked s₀ (delivery k p ∷ L) = NeverBlocked s₀ L
 
 -- Demand 3 of a machine: from every sound state, for every pair and every legal list
 abbrev pub Demand3 : {K : Keys} (M : Machine K) → (M .State → Type 0) → Type 0
-Demand3 {K} M Sound = (s₀ : M .State) → Sound s₀ → (P : Pair K) → P .side ≤ 1 → (L : List (Event (M .Call))) → Legal M s₀ P L → NeverBlocked M s₀ P L
+Demand3 {K} M Sound =
+    (s₀ : M .State) → Sound s₀ → (P : Pair K) → P .side ≤ 1 → (L : List (Event (M .Call))) →
+    Legal M s₀ P L → NeverBlocked M s₀ L

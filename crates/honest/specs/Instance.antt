@@ -21,5 +21,6 @@ module _ (K : Keys) where
     reads = λ q. asks (q .0);
   }
 
-  abbrev pub SoundList : Table K connections → Type 0
-  SoundList t = SoundTable K t × TypedTable K t
+  -- sound, and its numbers as their types have them
+  abbrev pub SoundTypedTable : Table K connections → Type 0
+  SoundTypedTable t = SoundTable K t × TypedTable K t

@@ -1,5 +1,6 @@
--- Honest ends (document 01): events, what an end has received, and what it may send. Lists are newest first: in x ∷ L, x comes after
--- all of L. Segments are those of `history`: their numbers are whole numbers, and `from` is 0 for the opener, 1 for the answerer.
+-- Honest ends (document 01): events, what was sent, has arrived and was received, and what an end may send. Lists are newest first: in
+-- x ∷ L, x comes after all of L. Segments are those of `history`: their numbers are whole numbers, and `from` is 0 for the opener, 1 for
+-- the answerer.
 use Prim.Native.Nat.{ℕ, _+_, _-_, _≤_, max}
 use mathlib.Core.Path.{_≡_}
 use mathlib.Core.Logic.{_⊎_}
@@ -20,6 +21,12 @@ pub data Label : Type 0 where
   arrival : (k : ℕ) (p : LineSegment) → Label
   other : Label
 
+-- the call is an arrival of its end's k-th sending, p
+abbrev pub Is : Label → ℕ → LineSegment → Type 0
+Is (opening j g) k p = (k ≡ j) × (p ≡ g)
+Is (arrival j g) k p = (k ≡ j) × (p ≡ g)
+Is other k p = ⊥
+
 -- an end sends a segment; the filter is called; an end's k-th sending comes to the far end
 pub data Event (Call : Type 0) : Type 0 where
   send : LineSegment → Event Call
@@ -32,7 +39,7 @@ pub record Pair (K : Keys) : Type 0 where
   pub key : K .Key
   pub start : ℕ → ℕ
 
--- What was sent and received
+-- What was sent, has arrived and was received
 
 module _ {Call : Type 0} where
   -- what end i has sent, newest first
@@ -49,12 +56,23 @@ module _ {Call : Type 0} where
   Sent k p (call q l ∷ L) = Sent k p L
   Sent k p (delivery j g ∷ L) = Sent k p L
 
+  -- an arrival of it has been, the opening or a later one
+  abbrev pub Arrived : ℕ → LineSegment → List (Event Call) → Type 0
+  Arrived k p [] = ⊥
+  Arrived k p (send g ∷ L) = Arrived k p L
+  Arrived k p (call q l ∷ L) = Is l k p ⊎ Arrived k p L
+  Arrived k p (delivery j g ∷ L) = Arrived k p L
+
   -- what end i has received, newest first
   unfoldable pub receivedBy : ℕ → List (Event Call) → List LineSegment
   receivedBy i [] = []
   receivedBy i (send p ∷ L) = receivedBy i L
   receivedBy i (call q l ∷ L) = receivedBy i L
   receivedBy i (delivery k p ∷ L) = if p .from =ᵇ i then receivedBy i L else p ∷ receivedBy i L
+
+-- "each end's arrivals are its sendings in order, .. some left out, some several times in a row": of end i, none after its k-th has arrived
+abbrev pub InOrder : (Arrived : ℕ → LineSegment → Type 0) (i k : ℕ) → Type 0
+InOrder Arrived i k = (j : ℕ) (g : LineSegment) → Arrived j g → g .from ≡ i → j ≤ k
 
 -- the highest of a number over segments, 0 over none
 unfoldable pub highest : (LineSegment → ℕ) → List LineSegment → ℕ

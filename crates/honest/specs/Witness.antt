@@ -1,5 +1,6 @@
 -- A legal list, so that demand 3 says something: one connection, from the opening to both FINs, whose numbers cross 2^32 both
--- ways, with losses, repeats, resends, deliveries out of order, a clock set back and other traffic.
+-- ways, with a shrunk window and a zero one, losses before the filter and after it, repeats, resends, deliveries out of order, a clock
+-- set back and other traffic.
 use Prim.Native.Nat.{ℕ, zero, suc, _+_, _-_, _^_, _≤_}
 use mathlib.Core.Path.{_≡_, refl}
 use mathlib.Core.Bool.{Bool, true, false, not, _&&_, _||_}
@@ -79,18 +80,23 @@ openerSends =
     -- 1: repeated
     ∷ opener's SYN 0 1 0 1000 tt
     ∷ opener's ACK 1 0 1 1000 tt
-    -- 3: over 2^32, with a zero window
-    ∷ opener's ACK 1 10 1 0 tt
-    -- 4: a later window
+    -- 3: over 2^32
+    ∷ opener's ACK 1 10 1 1000 tt
     ∷ opener's ACK 11 500 101 800 tt
     ∷ opener's ACK 511 2000 101 800 tt
-    -- 6: lost
+    -- 6: lost before the filter
     ∷ opener's ACK 2511 500 101 800 tt
     -- 7: again, after a shrunk window
     ∷ opener's ACK 511 1000 101 800 tt
     -- 8: again, below an acknowledgement that passed and was not delivered
     ∷ opener's ACK 511 600 101 800 tt
-    ∷ opener's FIN+ACK 2511 1 152 1000 tt
+    -- 9: 6 again, up to the right edge; it passes and is never delivered
+    ∷ opener's ACK 2511 500 101 800 tt
+    -- 10: and again
+    ∷ opener's ACK 2511 500 101 800 tt
+    -- 11: one octet into a zero window
+    ∷ opener's ACK 3011 1 101 800 tt
+    ∷ opener's FIN+ACK 3012 1 152 1000 tt
     ∷ []
 
 -- what the answerer sends, in order
@@ -101,13 +107,16 @@ answererSends =
     ∷ answerer's SYN+ACK 0 1 1 2000 tt
     -- 2: over 2^32
     ∷ answerer's ACK 1 100 1 2000 tt
+    -- 3: a right edge of 3011, and no other before 6 is further
     ∷ answerer's ACK 101 0 11 3000 tt
     -- 4: a shrunk window
     ∷ answerer's ACK 101 0 511 100 tt
     -- 5: passes and is delivered late
-    ∷ answerer's ACK 101 0 2511 4000 tt
-    ∷ answerer's FIN+ACK 101 51 2511 4000 tt
-    ∷ answerer's ACK 152 0 2512 4000 tt
+    ∷ answerer's ACK 101 0 2511 500 tt
+    -- 6: all up to that edge, with a zero window: by max(w, 1) the edge is 3012
+    ∷ answerer's ACK 101 0 3011 0 tt
+    ∷ answerer's FIN+ACK 101 51 3012 4000 tt
+    ∷ answerer's ACK 152 0 3013 4000 tt
     ∷ []
 
 -- the k-th sending
@@ -186,7 +195,7 @@ story =
     ∷ arrives a 0 3150
     ∷ arrives a 1 3200
     ∷ delivers o 2
-    -- data both ways, over 2^32; the opener's window is zero
+    -- data both ways, over 2^32
     ∷ sends (o 3)
     ∷ sends (a 2)
     ∷ arrives o 3 4000
@@ -196,7 +205,7 @@ story =
     ∷ forges 4160 (opener's ACK 900000 10 1 1000 tt)
     ∷ delivers o 3
     ∷ delivers a 2
-    -- a window again; another connection opens meanwhile, and the clock is set back
+    -- more data; another connection opens meanwhile, and the clock is set back
     ∷ sends (o 4)
     ∷ sends (a 3)
     ∷ arrives o 4 5000
@@ -226,17 +235,30 @@ story =
     ∷ delivers a 5
     ∷ delivers a 5
     ∷ delivers a 3
-    -- both FINs
-    ∷ sends (a 6)
-    ∷ arrives a 6 8000
-    ∷ delivers a 6
+    -- what was lost is sent again, ends exactly at the right edge, passes and is never delivered; so again
     ∷ sends (o 9)
-    ∷ arrives o 9 8100
-    ∷ arrives o 9 8200
-    ∷ delivers o 9
+    ∷ arrives o 9 7200
+    ∷ sends (o 10)
+    ∷ arrives o 10 7300
+    ∷ delivers o 10
+    -- the window closes there, and a probe of one octet goes into it
+    ∷ sends (a 6)
+    ∷ arrives a 6 7400
+    ∷ delivers a 6
+    ∷ sends (o 11)
+    ∷ arrives o 11 7500
+    ∷ delivers o 11
+    -- both FINs
     ∷ sends (a 7)
-    ∷ arrives a 7 8300
+    ∷ arrives a 7 8000
     ∷ delivers a 7
+    ∷ sends (o 12)
+    ∷ arrives o 12 8100
+    ∷ arrives o 12 8200
+    ∷ delivers o 12
+    ∷ sends (a 8)
+    ∷ arrives a 8 8300
+    ∷ delivers a 8
     ∷ []
 
 abbrev pub witness : List Seen

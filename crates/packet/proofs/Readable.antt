@@ -6,7 +6,7 @@ use mathlib.Core.List.{List}
 use native.Mathlib.Omega.{arith}
 use borrow.Author.Tests.{eq-eqb, eqb-true, eqb-false, not-false}
 use Rattle.choice.specs.Choice.{if_then_else_, _=ᵇ_}
-use Rattle.choice.proofs.Tests.{||-false}
+use Rattle.choice.proofs.Tests.{||-false, false-true}
 use Rattle.octets.specs.Octets.{Octets}
 use Rattle.octets.proofs.BigEndian.{bigEndian<256^n}
 use Rattle.segment.specs.Flags.{fin, syn, rst, ack, control}
@@ -28,16 +28,16 @@ use Rattle.packet.proofs.Read.{afterRow10, readPacket≡row5-then-tail,
 
 past-refusal : {f : Flow} {g : Segment} {rest : PacketRead} (t : Bool) (cause : Cause) → (if t then Refused cause else rest) ≡ Tcp f g → rest ≡ Tcp f g
 unfolding if_then_else_
-past-refusal true cause e = let z : _≡_ {A = ℕ} 0 1 = cc in absurd (omega arith)
+past-refusal true cause e = false-true cc
 past-refusal false cause e = e
 
 past-bad : {t : Bool} {check : FlagCheck} (cause : Cause) → (if t then Bad cause else check) ≡ Fine → (t ≡ false) × (check ≡ Fine)
 unfolding if_then_else_
-past-bad {t = true} cause e = let z : _≡_ {A = ℕ} 0 1 = cc in absurd (omega arith)
+past-bad {t = true} cause e = false-true cc
 past-bad {t = false} cause e = (refl, e)
 
 past-check : {f : Flow} {g : Segment} (read : PacketRead) (check : FlagCheck) → afterRow10 read check ≡ Tcp f g → (check ≡ Fine) × (read ≡ Tcp f g)
-past-check read (Bad cause) e = let z : _≡_ {A = ℕ} 0 1 = cc in absurd (omega arith)
+past-check read (Bad cause) e = false-true cc
 past-check read Fine e = (refl, e)
 
 module _ (p : List ℕ) (f : Flow) (g : Segment) (e : readPacket p ≡ Tcp f g) where

@@ -5,8 +5,9 @@ use mathlib.Core.Path.{_≡_, refl, sym, ap, _∙_}
 use mathlib.Core.Logic.{_↔_}
 use mathlib.Core.Bool.{Bool, true, false}
 use native.Mathlib.Omega.{arith}
-use lib.Dec.{ltb}
+use lib.Dec.{ltb, eqb}
 use borrow.Author.Tests.{ltb-true, ltb-false}
+use Rattle.choice.proofs.Tests.{eqb≡eqb}
 use Rattle.serial.specs.Ring.{wrap, ringPlus, ringMinus, standing, nearest, largestWindow, largestRange}
 
 -- Wrapping
@@ -160,3 +161,12 @@ same-start E R W E' R' W' S S' n a b c d e f g h i j same = wrap-injective S S' 
 
 pub same-ack : (E E' A A' K : ℕ) → K ≤ largestRange → E ≤ E' → E' ≤ E + largestWindow → A ≤ E → E ≤ A + K → A' ≤ E' → E' ≤ A' + K → wrap A ≡ wrap A' → A ≡ A'
 same-ack E E' A A' K a b c d e f g same = wrap-injective A A' same (omega arith) (omega arith)
+
+-- places near E are told apart by their sequence numbers
+pub wrap-eqb :
+    (E S X : ℕ) → E ≤ S + 2 ^ 31 → S < E + 2 ^ 31 → E ≤ X + 2 ^ 31 → X < E + 2 ^ 31 →
+    eqb (wrap S) (wrap X) ≡ eqb S X
+wrap-eqb E S X low high low' high' =
+    eqb≡eqb (wrap S) (wrap X) S X
+    (λ (e : wrap S ≡ wrap X). wrap-injective S X e (omega arith) (omega arith))
+    (λ (e : S ≡ X). ap wrap e)

@@ -52,9 +52,9 @@ legal-not-malformed l n room offset legal refused =
     let well = legal-wellFormed l n legal in
     ⊎-elim
     (λ (less : room < packetLength l).
-    let e = readLine-no-room l room (omega arith) well less in let z : _≡_ {A = ℕ} 0 1 = cc in omega arith)
+    let e = readLine-no-room l room (omega arith) well less in false-true cc)
     (λ (fits : packetLength l ≤ room).
-    let e = readLine-frame l room (omega arith) well fits in let z : _≡_ {A = ℕ} 0 1 = cc in omega arith)
+    let e = readLine-frame l room (omega arith) well fits in false-true cc)
     (lt-or-ge room (packetLength l))
 
 -- The theorems
