@@ -65,3 +65,7 @@ module _ {A : Type 0} {a b : ℕ} (x y : A) where
 
   pub if-≠-not : a ≡ b → (if a ≠ᵇ b then x else y) ≡ y
   if-≠-not h = if-false _ x y (ap not (eq-eqb a b h))
+
+-- two lists with the same first line: the rest need be the same only where its test fails
+pub if-else-past : {A : Type 0} {s t : Bool} (x : A) {y z : A} → s ≡ t → (s ≡ false → y ≡ z) → (if s then x else y) ≡ (if t then x else z)
+if-else-past {s} {t} x {y} {z} same rest = if-both _≡_ s t x y x z same (λ e. refl) rest

@@ -7,9 +7,9 @@ use lib.ListN.{getD-replicate}
 use lib.Seq.{getD-drop}
 use Rattle.octets.specs.Octets.{Octets}
 use Rattle.octets.specs.BigEndian.{octetsOf}
-use Rattle.octets.specs.Digits.{tabulate, digits}
+use Rattle.octets.specs.Digits.{digits}
 use Rattle.octets.proofs.BigEndian.{bigEndian<256^n}
-use Rattle.octets.proofs.Octets.{Bytes, bytes-[], bytes-∷, bytes-++, bytes-octetsOf, bytes-zeros}
+use Rattle.octets.proofs.Octets.{Bytes, bytes-[], bytes-∷, bytes-++, bytes-octetsOf, bytes-replicate}
 use Rattle.connection.specs.Ends.{sender}
 use Rattle.connection.specs.declared.Connection.{Connection}
 use Rattle.connection.specs.declared.End.{End}
@@ -68,13 +68,13 @@ bytes-entryBytes : (e : Entry) → Typed e → Bytes (entryBytes e)
 unfolding entryBytes
 bytes-entryBytes e typed =
     bytes-++ (bytes-marksBytes e typed)
-    (bytes-++ (bytes-endpointsBytes (e .opener) (e .answerer)) (bytes-++ (bytes-numbersBytes (e .connection)) (bytes-zeros 16)))
+    (bytes-++ (bytes-endpointsBytes (e .opener) (e .answerer)) (bytes-++ (bytes-numbersBytes (e .connection)) (bytes-replicate 16)))
 
 pub octets-entryBytes : (e : Entry) → Typed e → Octets (entryBytes e)
 octets-entryBytes e typed = bytes-entryBytes e typed .small
 
 -- its zero bytes are zero
 pub zeroBytes-entryBytes : (e : Entry) → ZeroBytes (entryBytes e) 0
-unfolding entryBytes marksBytes endpointsBytes numbersBytes endBytes octetsOf digits tabulate
+unfolding entryBytes marksBytes endpointsBytes numbersBytes endBytes octetsOf digits
 zeroBytes-entryBytes e =
     record { after-fins = refl; last = λ i h. sym (getD-drop 48 (entryBytes e) i 0) ∙ getD-replicate 16 i 0 0 h }

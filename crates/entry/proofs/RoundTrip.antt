@@ -3,13 +3,12 @@ use Prim.Native.Nat.{ℕ, _+_, _^_, _≤_, _<_}
 use mathlib.Core.Path.{_≡_, refl, sym, ap, _∙_}
 use mathlib.Core.List.{List, [], _∷_, _++_}
 use native.Mathlib.Omega.{arith}
-use lib.ListN.{length, getD, take, drop}
-use lib.Seq.{take-add, drop-drop, drop-cons}
+use lib.ListN.{length, getD, take, drop, replicate, length-drop, getD-replicate}
+use lib.Seq.{ext-getD, getD-take, getD-drop, length-take-le, take-add, drop-drop, drop-cons}
 use Rattle.octets.specs.Octets.{Octets}
 use Rattle.octets.specs.BigEndian.{bigEndian, octetsOf}
-use Rattle.octets.specs.Digits.{tabulate, number, digits}
+use Rattle.octets.specs.Digits.{number, digits}
 use Rattle.octets.specs.Overwrite.{overwrite}
-use Rattle.octets.proofs.Digits.{tabulate-cong, tabulate-getD}
 use Rattle.octets.proofs.Agree.{overwrite-agree}
 use Rattle.octets.proofs.BigEndian.{bigEndian-octetsOf, octetsOf-bigEndian}
 use Rattle.connection.specs.Ends.{sender, seqNum, count}
@@ -123,10 +122,10 @@ module _ (t : List ℕ) (at : ℕ) (fits : at + entrySize ≤ length t) (octets 
       let two = part-append t 1 1 (at + 2) (at + 3) _ _ (omega arith) fins last in
       part-append t 1 3 at (at + 1) _ _ refl stage (part-append t 1 2 (at + 1) (at + 2) _ _ (omega arith) side two)
 
-  zeros-part : ZeroBytes t at → tabulate (λ i. 0) 16 ≡ take 16 (drop (at + 48) t)
+  zeros-part : ZeroBytes t at → replicate 16 0 ≡ take 16 (drop (at + 48) t)
   zeros-part none =
-      tabulate-cong (λ i. 0) (λ i. getD t (at + 48 + i) 0) 16 (λ i h. sym (none .last i h))
-      ∙ tabulate-getD t (at + 48) 16 (omega arith)
+      ext-getD 0 (replicate 16 0) (take 16 (drop (at + 48) t)) (sym (length-take-le 16 (drop (at + 48) t) (simp length-drop (omega arith))))
+      (λ i h. getD-replicate 16 i 0 0 h ∙ sym (getD-take 16 (drop (at + 48) t) i 0 h ∙ getD-drop (at + 48) t i 0 ∙ none .last i h))
 
   pub store-loaded : ZeroBytes t at → entryBytes (entryAt t at) ≡ take entrySize (drop at t)
   unfolding entryBytes entryAt

@@ -2,7 +2,7 @@
 use mathlib.Core.Path.{_≡_, refl}
 use lib.ListN.{length}
 use Rattle.octets.specs.BigEndian.{octetsOf}
-use Rattle.octets.specs.Digits.{tabulate, digits}
+use Rattle.octets.specs.Digits.{digits}
 use Rattle.connection.specs.declared.Connection.{Connection}
 use Rattle.connection.specs.declared.End.{End}
 use Rattle.entry.specs.Layout.{entrySize, endBytes, marksBytes, endpointsBytes, numbersBytes, entryBytes}
@@ -26,5 +26,5 @@ unfolding numbersBytes endBytes octetsOf digits
 length-numbersBytes c = refl
 
 pub length-entryBytes : (e : Entry) → length (entryBytes e) ≡ entrySize
-unfolding entryBytes marksBytes endpointsBytes numbersBytes endBytes octetsOf digits tabulate
+unfolding entryBytes marksBytes endpointsBytes numbersBytes endBytes octetsOf digits
 length-entryBytes e = refl

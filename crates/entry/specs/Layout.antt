@@ -2,9 +2,8 @@
 use Prim.Native.Nat.{ℕ, _+_, _*_, _<_}
 use mathlib.Core.Path.{_≡_}
 use mathlib.Core.List.{List, [], _∷_, _++_}
-use lib.ListN.{getD}
+use lib.ListN.{getD, replicate}
 use Rattle.octets.specs.BigEndian.{bigEndian, octetsOf}
-use Rattle.octets.specs.Digits.{tabulate}
 use Rattle.connection.specs.Ends.{count, seqNum, sender}
 use Rattle.connection.specs.declared.Connection.{Connection}
 use Rattle.connection.specs.declared.End.{End}
@@ -46,7 +45,7 @@ numbersBytes c = octetsOf 8 (c .deadline) ++ (endBytes (sender (c .ends) 0) ++ e
 unfoldable pub entryBytes : Entry → List ℕ
 entryBytes e =
     marksBytes (e .connection)
-    ++ (endpointsBytes (e .opener) (e .answerer) ++ (numbersBytes (e .connection) ++ tabulate (λ i. 0) 16))
+    ++ (endpointsBytes (e .opener) (e .answerer) ++ (numbersBytes (e .connection) ++ replicate 16 0))
 
 -- an address (4) and its port (2), which stand apart
 abbrev pub endpointAt : List ℕ → ℕ → ℕ → Endpoint

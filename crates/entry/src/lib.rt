@@ -1,8 +1,7 @@
 // One entry of the table by value: loaded from its place in lent bytes, and stored there (document 01, "The table").
 ghost use mathlib.Core.Path.{_≡_};
 ghost use Prim.Native.Nat.{_+_, _≤_};
-ghost use lib.ListN.{length};
-ghost use Rattle.octets.specs.Digits.{tabulate};
+ghost use lib.ListN.{length, replicate};
 ghost use Rattle.octets.specs.Overwrite.{overwrite};
 ghost use Rattle.entry.specs.Layout.{placeAt, entrySize, entryAt, endpointAt, connectionAt, endAt, entryBytes, marksBytes, endpointsBytes, numbersBytes, endBytes};
 use connection::Connection;
@@ -141,7 +140,7 @@ fn store_numbers(table: &mut [u8], at: usize, connection: Connection)
 // The 16 zeros that end an entry.
 fn store_zeros(table: &mut [u8], at: usize)
     requires { ⌜ at + 16 ≤ length (now table) ⌝ }
-    ensures { λ r. ⌜ now (table .exit) ≡ overwrite (now (table .entry)) at (tabulate (λ i. 0) 16) ⌝ }
+    ensures { λ r. ⌜ now (table .exit) ≡ overwrite (now (table .entry)) at (replicate 16 0) ⌝ }
 {
     write64(table, at, 0);
     write64(table, at + 8, 0);

@@ -4,9 +4,9 @@ use mathlib.Core.Path.{_≡_, refl, sym, ap, _∙_}
 use mathlib.Core.List.{List, [], _∷_, _++_}
 use native.Mathlib.Omega.{arith}
 use native.Mathlib.Nat.{add-zero, zero-add, add-assoc, div-add-mod', mod-lt, one-le-pow}
-use lib.ListN.{length, getD, take, drop}
+use lib.ListN.{length, getD, take, drop, replicate}
 use Rattle.octets.specs.Octets.{Octets}
-use Rattle.octets.specs.Digits.{tabulate, number, digits}
+use Rattle.octets.specs.Digits.{number, digits}
 use Rattle.octets.specs.BigEndian.{bigEndian, octetsOf}
 use Rattle.octets.specs.Overwrite.{overwrite}
 use Rattle.octets.proofs.Digits.{length-digits, number-cong, number<base^n, number-add, number-digits, digits-add, digits-number, tabulate-getD}
@@ -63,8 +63,8 @@ overwrite-halves n v l half whole at fits first second =
     ∙ ap (overwrite l at) (sym (octetsOf-add n n v))
 
 -- two numbers 0 are 16 zeros
-pub octetsOf-0-0 : octetsOf 8 0 ++ octetsOf 8 0 ≡ tabulate (λ i. 0) 16
-unfolding octetsOf digits tabulate
+pub octetsOf-0-0 : octetsOf 8 0 ++ octetsOf 8 0 ≡ replicate 16 0
+unfolding octetsOf digits
 octetsOf-0-0 = refl
 
 pub bigEndian-octetsOf : (n v : ℕ) → v < 256 ^ n → bigEndian n (octetsOf n v) 0 ≡ v

@@ -1,5 +1,6 @@
 pub mod Digits
 pub mod Overwrite
+pub mod Text
 pub mod Agree
 pub mod BigEndian
 pub mod LittleEndian

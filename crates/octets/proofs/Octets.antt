@@ -6,10 +6,10 @@ use lib.ListN.{length, getD, take, drop, replicate}
 use lib.Seq.{getD-drop}
 use Rattle.octets.specs.Octets.{Octets}
 use Rattle.octets.specs.BigEndian.{octetsOf}
-use Rattle.octets.specs.Digits.{tabulate, digits}
+use Rattle.octets.specs.Digits.{digits}
 use Rattle.octets.specs.Overwrite.{overwrite}
 
--- a list of octets, said so that the list can be told from it
+-- the same as a record, so that the checker can infer the list
 pub record Bytes (l : List ℕ) : Type 0 where
   pub small : Octets l
 
@@ -35,11 +35,6 @@ pub bytes-octetsOf : (n v : ℕ) → Bytes (octetsOf n v)
 unfolding octetsOf digits
 bytes-octetsOf zero v = bytes-[]
 bytes-octetsOf (suc n) v = bytes-++ (bytes-octetsOf n (v / 256)) (bytes-∷ (omega arith) bytes-[])
-
-pub bytes-zeros : (n : ℕ) → Bytes (tabulate (λ i. 0) n)
-unfolding tabulate
-bytes-zeros zero = bytes-[]
-bytes-zeros (suc n) = bytes-++ (bytes-zeros n) (bytes-∷ (omega arith) bytes-[])
 
 pub bytes-replicate : (n : ℕ) → Bytes (replicate n 0)
 bytes-replicate zero = bytes-[]

@@ -6,7 +6,7 @@ use native.Mathlib.Omega.{arith}
 use native.Mathlib.Nat.{add-zero, zero-add}
 use native.Mathlib.Numerals.{add-one}
 use lib.ListN.{length, getD, take, drop, set, length-append, length-drop, take-append-drop}
-use lib.Seq.{getD-take, getD-drop, length-take-le, take-at, drop-at, drop-drop, set-split, take-set-le, take-append-seam}
+use lib.Seq.{getD-take, getD-drop, length-take-le, take-at, drop-at, drop-drop, set-split, take-set-le, take-suc, take-append-seam}
 use Rattle.octets.specs.Digits.{tabulate}
 use Rattle.octets.specs.Overwrite.{overwrite}
 use Rattle.octets.proofs.Digits.{length-tabulate}
@@ -46,21 +46,25 @@ module _ (l : List ℕ) (at : ℕ) (vs : List ℕ) (fits : at + length vs ≤ le
       (drop-at (take at l ++ vs) (drop (at + length vs) l) (at + length vs)
       (length-append (take at l) vs ∙ omega (arith, before)))
 
+  -- up to where what was written ends
+  pub take-overwrite-end : take (at + length vs) (overwrite l at vs) ≡ take at l ++ vs
+  unfolding overwrite
+  take-overwrite-end =
+      rw (← append-assoc (take at l) vs (drop (at + length vs) l))
+      (take-at (take at l ++ vs) (drop (at + length vs) l) (at + length vs)
+      (length-append (take at l) vs ∙ omega (arith, before)))
+
   -- a second part, written where the first ends
   pub overwrite-append : (ws : List ℕ) → overwrite (overwrite l at vs) (at + length vs) ws ≡ overwrite l at (vs ++ ws)
   unfolding overwrite
   overwrite-append ws =
-      let head : take (at + length vs) (overwrite l at vs) ≡ take at l ++ vs =
-      rw (← append-assoc (take at l) vs (drop (at + length vs) l))
-      (take-at (take at l ++ vs) (drop (at + length vs) l) (at + length vs)
-      (length-append (take at l) vs ∙ omega (arith, before))) in
       let sum : at + length vs + length ws ≡ at + length (vs ++ ws) = simp length-append (omega arith) in
       let tail : drop (at + length vs + length ws) (overwrite l at vs) ≡ drop (at + length (vs ++ ws)) l =
       sym (drop-drop (length ws) (at + length vs) (overwrite l at vs))
       ∙ ap (drop (length ws)) drop-overwrite
       ∙ drop-drop (length ws) (at + length vs) l
       ∙ ap (λ (k : ℕ). drop k l) sum in
-      rw (head, tail) (simp append-assoc)
+      rw (take-overwrite-end, tail) (simp append-assoc)
 
   -- octet by octet
 
@@ -113,6 +117,14 @@ overwrite-tabulate l f i h =
     let size : 0 + length (tabulate f i) ≤ length l = rw (length-tabulate f i) (omega arith) in
     set≡overwrite (overwrite l 0 (tabulate f i)) i (f i) (rw (length-overwrite l 0 (tabulate f i) size) h)
     ∙ rw add-one (rw zero-add at (overwrite-join l 0 i (tabulate f i) (f i ∷ []) (length-tabulate f i) (omega arith)))
+
+-- a copy that grows by one element at a time
+pub overwrite-take-next : (l xs : List ℕ) (at i : ℕ) → i < length xs → at + i < length l → set (overwrite l at (take i xs)) (at + i) (getD xs i 0) ≡ overwrite l at (take (i + 1) xs)
+overwrite-take-next l xs at i inside fits =
+    let size : length (take i xs) ≡ i = length-take-le i xs (omega arith) in
+    set≡overwrite (overwrite l at (take i xs)) (at + i) (getD xs i 0) (rw (length-overwrite l at (take i xs) (omega arith)) (omega arith))
+    ∙ overwrite-join l at i (take i xs) (getD xs i 0 ∷ []) size (omega arith)
+    ∙ ap (overwrite l at) (rw add-one (sym (take-suc xs i 0 inside)))
 
 -- two stores, side by side
 pub set-set≡overwrite : (l : List ℕ) (at v w : ℕ) → at + 2 ≤ length l → set (set l at v) (at + 1) w ≡ overwrite l at (v ∷ w ∷ [])

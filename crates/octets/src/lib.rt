@@ -1,6 +1,6 @@
 // Big-endian numbers of 2, 4 and 8 octets in lent bytes, at an offset; by words that are read and stored lowest octet first.
 ghost use mathlib.Core.Path.{_≡_};
-ghost use Prim.Native.Nat.{_+_, _*_, _/_, _%_, _≤_, _<_};
+ghost use Prim.Native.Nat.{_+_, _*_, _/_, _%_, _≤_, _<_, min};
 ghost use lib.ListN.{length};
 ghost use Rattle.octets.specs.BigEndian.{bigEndian, octetsOf};
 ghost use Rattle.octets.specs.LittleEndian.{littleEndian, FourOctets, littleOctets};
@@ -84,4 +84,11 @@ pub fn write64(s: &mut [u8], at: usize, v: u64)
 {
     write32(s, at, (v / 4294967296) as u32);
     write32(s, at + 4, (v % 4294967296) as u32);
+}
+
+// The smaller of two lengths.
+pub fn least(a: usize, b: usize) -> usize
+    ensures { λ r. ⌜ r ≡ min a b ⌝ }
+{
+    if a < b { a } else { b }
 }

@@ -1,7 +1,7 @@
 -- Row 10, told from the low three flag bits, which hold RST, SYN and FIN.
 use Prim.Native.Nat.{ℕ, _%_, _≤_, _<_}
 use mathlib.Core.Path.{_≡_, refl, _∙_}
-use mathlib.Core.Bool.{Bool, true, false, _&&_, _||_, not}
+use mathlib.Core.Bool.{Bool, true, false, _&&_, _||_, not, or-true}
 use native.Mathlib.Omega.{arith}
 use lib.Dec.{eqb}
 use borrow.Author.Tests.{eq-eqb, ne-eqb}
@@ -38,10 +38,6 @@ bit-set b e = eq-eqb b 1 e
 
 pub bit-clear : (b : ℕ) → b ≡ 0 → eqb b 1 ≡ false
 bit-clear b e = ne-eqb b 1 (λ (one : b ≡ 1). omega arith)
-
-||-true : (b : Bool) → (b || true) ≡ true
-||-true true = refl
-||-true false = refl
 
 module _ (f n : ℕ) where
   syn-set : syn (f % 8) ≡ 1 → eqb (syn f) 1 ≡ true
@@ -82,10 +78,10 @@ module _ (f n : ℕ) where
   unfolding by-bits if_then_else_
   row10-syn-rst low =
       row10≡by-bits f n (syn-set (omega arith)) refl (bit-set (rst f) (rst-low f ∙ omega arith)) refl refl
-      ∙ rw ||-true
+      ∙ rw or-true
 
   pub row10-rst : 4 ≤ f % 8 → f % 8 < 6 → row10 f n ≡ Fine
   unfolding by-bits if_then_else_
   row10-rst low high =
       row10≡by-bits f n (syn-clear (omega arith)) refl (bit-set (rst f) (rst-low f ∙ omega arith)) refl refl
-      ∙ rw ||-true
+      ∙ rw or-true

@@ -1,33 +1,26 @@
 -- Bytes past total length are ignored: what a row reads lies in the first 20 bytes or below the total length.
 use Prim.Native.Nat.{ℕ, _+_, _-_, _≤_, _<_}
 use mathlib.Core.Path.{_≡_, refl, sym, _∙_}
-use mathlib.Core.Bool.{Bool, false}
 use mathlib.Core.List.{List, _++_}
 use native.Mathlib.Omega.{arith}
 use lib.ListN.{length, getD, length-append, List·getD-append}
 use lib.Seq.{take-append-le}
 use borrow.Author.Tests.{le-ltb, ltb-false}
-use Rattle.choice.specs.Choice.{if_then_else_, _<ᵇ_}
-use Rattle.choice.proofs.Choice.{if-both}
+use Rattle.choice.specs.Choice.{_<ᵇ_}
+use Rattle.choice.proofs.Choice.{if-else-past}
 use Rattle.octets.specs.BigEndian.{bigEndian}
-use Rattle.octets.proofs.Digits.{number-cong}
+use Rattle.octets.proofs.BigEndian.{bigEndian-agree}
 use Rattle.packet.specs.Header.{headerLength, totalLength}
 use Rattle.packet.specs.Tails.{rows9to10, rows6to10}
 use Rattle.packet.specs.Ignored.{PastTotalIgnored}
 use Rattle.packet.proofs.Read.{readPacket≡row5-then-tail}
-
--- two lists with the same first line: the rest need be the same only where its test fails
-if-else-past : {A : Type 0} {s t : Bool} (x : A) {y z : A} → s ≡ t → (s ≡ false → y ≡ z) → (if s then x else y) ≡ (if t then x else z)
-if-else-past {s} {t} x {y} {z} same rest = if-both _≡_ s t x y x z same (λ e. refl) rest
 
 module _ (p past : List ℕ) where
   octet-unchanged : (i : ℕ) → i < length p → getD (p ++ past) i 0 ≡ getD p i 0
   octet-unchanged i inside = List·getD-append p past 0 i inside
 
   bigEndian-unchanged : (n at : ℕ) → at + n ≤ length p → bigEndian n (p ++ past) at ≡ bigEndian n p at
-  unfolding bigEndian
-  bigEndian-unchanged n at inside =
-      number-cong 256 (λ i. getD (p ++ past) (at + i) 0) (λ i. getD p (at + i) 0) n (λ i h. octet-unchanged (at + i) (omega arith))
+  bigEndian-unchanged n at inside = bigEndian-agree (p ++ past) at p at n (λ i h. octet-unchanged (at + i) (omega arith))
 
   length-test-unchanged : (n : ℕ) → n ≤ length p → (length (p ++ past) <ᵇ n) ≡ (length p <ᵇ n)
   length-test-unchanged n enough =

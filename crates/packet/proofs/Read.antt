@@ -9,8 +9,8 @@ use lib.ListN.{length, take}
 use borrow.Author.Tests.{eq-eqb, ne-eqb, eqb-false}
 use Rattle.choice.specs.Choice.{if_then_else_, _<ᵇ_, _=ᵇ_, _≠ᵇ_}
 use Rattle.choice.proofs.Choice.{if-true, if-false, if-ap, if-else, if-<-not, if-≠, if-≠-not}
-use Rattle.packet.specs.Header.{version, headerLength, totalLength, protocol, dataOffset, controlBits}
 use Rattle.octets.specs.BigEndian.{bigEndian}
+use Rattle.packet.specs.Header.{version, headerLength, totalLength, protocol, dataOffset, controlBits}
 use Rattle.packet.specs.Sum.{onesSum}
 use Rattle.packet.specs.Read.{flowOf, segmentOf, payload, readPacket}
 use Rattle.packet.specs.Tails.{row10, rows9to10, rows6to10}

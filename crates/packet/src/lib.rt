@@ -1,9 +1,9 @@
 // Reads an IPv4 packet with one TCP segment: answers 5 to 10 of document 01, or the flow and the segment.
 ghost use mathlib.Core.Path.{_≡_};
-ghost use Prim.Native.Nat.{_+_, _*_, _%_, _≤_, _<_};
-ghost use lib.ListN.{length, getD};
+ghost use Prim.Native.Nat.{_+_, _%_, _≤_, _<_};
+ghost use lib.ListN.{length};
 ghost use Rattle.segment.specs.Flags.{control};
-ghost use Rattle.packet.specs.Header.{dataOffset, controlBits};
+ghost use Rattle.packet.specs.Header.{dataOffset};
 ghost use Rattle.packet.specs.Sum.{onesSum, wordSum};
 ghost use Rattle.packet.specs.Read.{flowOf, segmentOf, readPacket, causeNumber, refusalNumber, packetRefusal};
 ghost use Rattle.packet.specs.Tails.{row10, rows9to10, rows6to10};

@@ -2,9 +2,8 @@
 ghost use mathlib.Core.Path.{_≡_};
 ghost use Prim.Native.Nat.{_+_, _*_, _≤_};
 ghost use Rattle.filter.specs.Call.{outcomeOf, replyOf, tableAfter};
-ghost use Rattle.trace.specs.Read.{reading};
-ghost use Rattle.trace.specs.Write.{writing};
-ghost use Rattle.quaybonnet.specs.Lines.{packetAfterReading, lineAfterWriting};
+ghost use Rattle.trace.specs.Read.{packetAfterReading, reading};
+ghost use Rattle.trace.specs.Write.{lineAfterWriting, writing};
 ghost use Rattle.quaybonnet.specs.Packed.{packed};
 
 // The answer and the place as one number.

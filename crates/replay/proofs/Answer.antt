@@ -14,7 +14,7 @@ use Rattle.octets.specs.Overwrite.{overwrite}
 use Rattle.octets.proofs.Digits.{length-tabulate}
 use Rattle.octets.proofs.Overwrite.{overwrite-there}
 use Rattle.trace.specs.Line.{packetLength, packetOf}
-use Rattle.trace.specs.Read.{readLine, packetAfter, readAnswer}
+use Rattle.trace.specs.Read.{readLine, packetAfter, packetAfterReading, readAnswer}
 use Rattle.trace.specs.declared.LineRead.{LineRead}
 use Rattle.trace.specs.declared.LineRead.the-variants.{TooLong, Malformed, NoRoom, Frame}
 use Rattle.trace.proofs.Read.{firstIllegal≤length, readLine-too-long}
@@ -54,12 +54,12 @@ readLine-bounded line =
     (λ fits. (refl, ltb-false room (packetLength line) fits))))
 
 -- what the filter is shown: the packet of the line
-pub frame-packet : (line packet : List ℕ) (read : LineRead) (side clock n : ℕ) → read ≡ readLine line room → read ≡ Frame side clock n → length packet ≡ room → (n ≤ room) × (take n (drop 0 (packetAfter read line packet)) ≡ packetOf line)
+pub frame-packet : (line packet : List ℕ) (side clock n : ℕ) → readLine line room ≡ Frame side clock n → length packet ≡ room → (n ≤ room) × (take n (drop 0 (packetAfterReading line packet)) ≡ packetOf line)
 unfolding packetAfter packetOf
-frame-packet line packet read side clock n whole frame size =
-    let bounds : (n ≡ packetLength line) × (n ≤ room) = rw (← whole, frame) at (readLine-bounded line) in
+frame-packet line packet side clock n frame size =
+    let bounds : (n ≡ packetLength line) × (n ≤ room) = rw frame at (readLine-bounded line) in
     let count : length (packetOf line) ≡ n = length-tabulate _ _ ∙ sym (bounds .0) in
-    (bounds .1, rw (frame, ← count) (overwrite-there packet 0 (packetOf line) (omega arith)))
+    (bounds .1, rw (size, frame, ← count) (overwrite-there packet 0 (packetOf line) (omega arith)))
 
 -- The result
 

@@ -7,13 +7,12 @@ use mathlib.Core.List.{List, [], _∷_, _++_, append-assoc, append-nil}
 use native.Mathlib.Omega.{arith}
 use native.Mathlib.Numerals.{add-one}
 use lib.ListN.{length, take, set, length-append, length-set}
-use lib.Seq.{take-all, take-append-le, take-add, take-suc-set}
+use lib.Seq.{take-all, take-append-le, take-suc-set}
 use borrow.Author.Tests.{eqb-true, eqb-false}
-use Rattle.choice.specs.Choice.{if_then_else_, _=ᵇ_}
+use Rattle.choice.specs.Choice.{_=ᵇ_}
 use Rattle.choice.proofs.Choice.{if-either, if-=, if-=-not}
 use Rattle.choice.proofs.Tests.{true-or-false, lt-or-ge}
-use Rattle.octets.specs.Overwrite.{overwrite}
-use Rattle.octets.proofs.Overwrite.{length-overwrite, take-overwrite, overwrite-there}
+use Rattle.octets.proofs.Overwrite.{length-overwrite, take-overwrite-end}
 use Rattle.report.specs.Text.{resultText, totalText}
 use Rattle.report.proofs.Text.{length-totalText≤52}
 use Rattle.replay.specs.Printed.{newline, linesFrom, linesOf, resultOf, Run, passes, afterLine, afterLines, printed}
@@ -122,11 +121,6 @@ follows-byte n done m r begun b f =
 
 -- The end of a line
 
--- a text that is added to the output is written after what it held
-take-added : (l : List ℕ) (at : ℕ) (text : List ℕ) → at + length text ≤ length l → take (at + length text) (overwrite l at text) ≡ take at l ++ text
-take-added l at text fits =
-    take-add at (length text) (overwrite l at text) ∙ rw (take-overwrite l at text fits, overwrite-there l at text fits)
-
 -- the line's first 4,112 bytes have the result of the whole line
 same-result : (n : ℕ) (done : List ℕ) (m : Memory) (r : Run) (begun : List ℕ) → Follows n done m r begun → resultOf (take (m .progress .kept) (m .line)) (m .table) ≡ resultOf begun (r .table)
 same-result n done m r begun f =
@@ -150,7 +144,7 @@ follows-line n done m r begun f fits =
       kept = omega arith;
       line = refl;
       used = omega arith;
-      text = ap (λ l. done ++ l) (take-added (m .out) (m .progress .used) text inside) ∙ sym (append-assoc done (toWrite m) text) ∙ ap (λ l. l ++ text) (f .text);
+      text = ap (λ l. done ++ l) (take-overwrite-end (m .out) (m .progress .used) text inside) ∙ sym (append-assoc done (toWrite m) text) ∙ ap (λ l. l ++ text) (f .text);
       table = refl;
       passed = add-modulo _ _ _ (f .passed);
       lines = add-modulo _ _ _ (f .lines);
@@ -183,7 +177,7 @@ total-written n done m r begun f fits counts =
     let passed : m .progress .passed ≡ r .passed = omega (arith, counts .0) in
     let lines : m .progress .lines ≡ r .lines = omega (arith, counts .1) in
     let inside : m .progress .used + length text ≤ length (m .out) = omega (arith, length-totalText≤52 (m .progress .passed) (m .progress .lines)) in
-    ap (λ l. done ++ l) (take-added (m .out) (m .progress .used) text inside)
+    ap (λ l. done ++ l) (take-overwrite-end (m .out) (m .progress .used) text inside)
     ∙ sym (append-assoc done (toWrite m) text)
     ∙ ap (λ l. l ++ text) (f .text)
     ∙ ap (λ l. r .text ++ l) (ap (λ k. totalText k (m .progress .lines)) passed ∙ ap (totalText (r .passed)) lines)
@@ -283,10 +277,3 @@ program-room n (piece ∷ pieces) e most = (omega (arith, most .0), program-room
 pub program-writes-printed : ProgramWritesPrinted
 program-writes-printed line out pieces size large most few =
     writes-printed (memory programTable line out atStart) pieces size refl (program-room (length out) pieces large most) few
-
--- Sentences of document 01 on the program, by computation
-
--- no input: `passed 0 of 0`
-pub no-input : (t : List ℕ) → printed t [] ≡ totalText 0 0
-unfolding printed linesFrom afterLines totalText if_then_else_
-no-input t = refl

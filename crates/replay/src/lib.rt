@@ -1,12 +1,13 @@
 // Runs a trace whose input comes in pieces: document 01, "Trace lines". A program adds the reading and the writing.
 ghost use Prim.Native.Nat.{ℕ, _+_, _*_, _≤_, _<_, min};
 ghost use mathlib.Core.Path.{_≡_};
-ghost use lib.ListN.{length, take, drop, getD};
+ghost use lib.ListN.{length, drop, getD};
 ghost use Rattle.octets.specs.Overwrite.{overwrite};
 ghost use Rattle.report.specs.Text.{resultText};
 ghost use Rattle.replay.specs.Printed.{resultOf, passes};
 ghost use Rattle.replay.specs.Feed.{memory, withUsed, withAnswer, withLine, afterPiece, atEnd, withTotal, beforeNewline, fitting};
 ghost use Rattle.replay.specs.Written.{atStart, lineRoom, resultRoom, totalRoom};
+use octets::least;
 use report::Shown;
 use std::num::wrapping_add_u64;
 use trace::LineRead;
@@ -102,12 +103,6 @@ fn newline_from(piece: &[u8], at: usize) -> usize
         i += 1;
     }
     i
-}
-
-fn least(a: usize, b: usize) -> usize
-    ensures { λ r. ⌜ r ≡ min a b ⌝ }
-{
-    if a < b { a } else { b }
 }
 
 // Keeps further bytes of a line, and gives how many are kept then; what there is no room for is dropped.

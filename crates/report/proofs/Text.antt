@@ -1,20 +1,20 @@
--- Laws of the printed text: a number has 1 to 20 digits, no leading zero, and the digits stand for it.
+-- Laws of the printed text: a number has at most 20 digits, no leading zero, and the digits stand for it.
 use Prim.Native.Nat.{ℕ, zero, suc, _+_, _-_, _*_, _/_, _%_, _^_, _≤_, _<_}
-use mathlib.Core.Path.{_≡_, refl, sym, ap, _∙_}
+use mathlib.Core.Path.{_≡_, refl, _∙_}
 use mathlib.Core.Logic.{⊎-elim}
-use mathlib.Core.List.{List, [], _∷_, _++_, map, map-append, append-assoc}
+use mathlib.Core.List.{List, [], _∷_, _++_, map, append-assoc}
 use native.Mathlib.Omega.{arith}
-use native.Mathlib.Nat.{pow-suc, div-lt-iff-lt-mul, le-div-iff-mul-le}
-use native.Mathlib.Numerals.{add-one}
-use lib.ListN.{length, getD, set, take, length-append, length-map, List·getD-map, List·getD-append}
-use lib.Seq.{getD-at, length-take-le, take-suc}
+use native.Mathlib.Nat.{pow-suc, div-lt-iff-lt-mul}
+use lib.ListN.{length, getD, set, length-append, List·getD-map, List·getD-append}
+use lib.Seq.{getD-at}
 use Rattle.choice.specs.Choice.{_<ᵇ_}
 use Rattle.choice.proofs.Choice.{if-cases, if-<, if-<-not}
 use Rattle.choice.proofs.Tests.{lt-or-ge}
 use Rattle.octets.specs.Digits.{number, digits}
 use Rattle.octets.specs.Overwrite.{overwrite}
-use Rattle.octets.proofs.Digits.{length-digits, number-cong, number-digits}
-use Rattle.octets.proofs.Overwrite.{set≡overwrite, length-overwrite, overwrite-join, overwrite-set}
+use Rattle.octets.proofs.Digits.{number-cong, number-digits}
+use Rattle.octets.proofs.Overwrite.{overwrite-join}
+use Rattle.octets.proofs.Text.{length-map-digits, map-digits-suc, overwrite-map-digits}
 use Rattle.report.specs.Text.{countUpTo, digitCount, decimalDigits, decimalText, shownText, resultText, totalText}
 use Rattle.report.specs.declared.Shown.{Shown}
 use Rattle.report.specs.declared.Shown.the-variants.{Number, Dash}
@@ -58,23 +58,7 @@ below-countUpTo (suc k) v fits =
     rw (m .2, e, f, pow-suc) (div-lt-iff-lt-mul {k = 10} (omega arith) .0 (below-countUpTo k (v / 10) (rw e at (m .1)))))
     (lt-or-ge v 10)
 
--- and not below the one before
-pub power≤countUpTo : (k v : ℕ) → 1 ≤ v → 10 ^ (countUpTo k v - 1) ≤ v
-unfolding countUpTo
-power≤countUpTo zero v some = omega arith
-power≤countUpTo (suc k) v some =
-    ⊎-elim
-    (λ (small : v < 10). rw (if-< {a = v} {b = 10} 1 (suc (countUpTo k (v / 10))) small) (omega arith))
-    (λ (large : 10 ≤ v).
-    let n = countUpTo k (v / 10) in
-    let e : suc (n - 1) ≡ n = omega (arith, countUpTo-bounds k (v / 10) .0) in
-    let f : suc n - 1 ≡ n = omega arith in
-    let step : 10 ^ suc (n - 1) ≤ v =
-    rw pow-suc (le-div-iff-mul-le {k = 10} (omega arith) .0 (power≤countUpTo k (v / 10) (omega arith))) in
-    rw (if-<-not {a = v} {b = 10} 1 (suc n) large, f) (rw e at step))
-    (lt-or-ge v 10)
-
--- nor has a number below a power of ten more digits than that power says
+-- and a number below a power of ten has no more digits than that power says
 pub countUpTo≤ : (n k v : ℕ) → v < 10 ^ suc n → countUpTo k v ≤ suc n
 unfolding countUpTo
 countUpTo≤ zero k v below = omega (arith, countUpTo-one k v (omega arith))
@@ -82,10 +66,6 @@ countUpTo≤ (suc n) zero v below = omega arith
 countUpTo≤ (suc n) (suc k) v below =
     if-cases (λ c. c ≤ suc (suc n)) (v <ᵇ 10) 1 (suc (countUpTo k (v / 10))) (λ _. omega arith)
     (λ _. omega (arith, countUpTo≤ n k (v / 10) (div-lt-iff-lt-mul {k = 10} (omega arith) .1 (rw pow-suc at below))))
-
-pub 1≤digitCount : (v : ℕ) → 1 ≤ digitCount v
-unfolding digitCount
-1≤digitCount v = countUpTo-bounds 19 v .0
 
 pub digitCount≤20 : (v : ℕ) → digitCount v ≤ 20
 unfolding digitCount
@@ -95,35 +75,24 @@ pub below-digitCount : (v : ℕ) → v < 10 ^ 20 → v < 10 ^ digitCount v
 unfolding digitCount
 below-digitCount v fits = below-countUpTo 19 v fits
 
--- so it is the least such number of digits
-pub power≤digitCount : (v : ℕ) → 1 ≤ v → 10 ^ (digitCount v - 1) ≤ v
-unfolding digitCount
-power≤digitCount v some = power≤countUpTo 19 v some
-
 -- Digits as characters
 
 pub length-decimalDigits : (n v : ℕ) → length (decimalDigits n v) ≡ n
 unfolding decimalDigits
-length-decimalDigits n v = length-map (digits 10 n v) (λ d. 48 + d) ∙ length-digits 10 n v
+length-decimalDigits = length-map-digits (λ d. 48 + d) 10
 
 pub decimalDigits-suc : (n v : ℕ) → decimalDigits (suc n) v ≡ decimalDigits n (v / 10) ++ ((48 + v % 10) ∷ [])
-unfolding decimalDigits digits
-decimalDigits-suc n v = map-append (λ d. 48 + d) (digits 10 n (v / 10)) (v % 10 ∷ [])
+unfolding decimalDigits
+decimalDigits-suc = map-digits-suc (λ d. 48 + d) 10
 
 -- the last digit, stored first, leaves the digits before it to be written
 pub overwrite-decimalDigits : (l : List ℕ) (at i v : ℕ) → 0 < i → at + i ≤ length l → overwrite (set l (at + (i - 1)) (48 + v % 10)) at (decimalDigits (i - 1) (v / 10)) ≡ overwrite l at (decimalDigits i v)
-overwrite-decimalDigits l at i v some fits =
-    let e : suc (i - 1) ≡ i = omega arith in
-    overwrite-set l at (i - 1) (48 + v % 10) (decimalDigits (i - 1) (v / 10)) (length-decimalDigits (i - 1) (v / 10)) (omega arith)
-    ∙ ap (overwrite l at) (rw e at (sym (decimalDigits-suc (i - 1) v)))
+unfolding decimalDigits
+overwrite-decimalDigits = overwrite-map-digits (λ d. 48 + d) 10
 
 pub length-decimalText : (v : ℕ) → length (decimalText v) ≡ digitCount v
 unfolding decimalText
 length-decimalText v = length-decimalDigits (digitCount v) v
-
--- a number has 1 to 20 characters
-pub 1≤length-decimalText : (v : ℕ) → 1 ≤ length (decimalText v)
-1≤length-decimalText v = rw (length-decimalText v) (1≤digitCount v)
 
 pub length-decimalText≤20 : (v : ℕ) → length (decimalText v) ≤ 20
 length-decimalText≤20 v = rw (length-decimalText v) (digitCount≤20 v)
@@ -145,7 +114,7 @@ pub number-decimalText : (v : ℕ) → v < 10 ^ 20 → number 10 (λ i. getD (de
 unfolding decimalText decimalDigits
 number-decimalText v fits =
     let n = digitCount v in
-    rw (length-map (digits 10 n v) (λ d. 48 + d), length-digits 10 n v)
+    rw (length-map-digits (λ d. 48 + d) 10 n v)
     (number-cong 10 (λ i. getD (map (λ d. 48 + d) (digits 10 n v)) i 48 - 48) (λ i. getD (digits 10 n v) i 0) n
     (λ i h. let e : getD (map (λ d. 48 + d) (digits 10 n v)) i 48 ≡ 48 + getD (digits 10 n v) i 0 = List·getD-map (λ d. 48 + d) (digits 10 n v) i 0 in omega arith)
     ∙ number-digits 10 n v (omega arith) (below-digitCount v fits))
@@ -155,10 +124,6 @@ number-decimalText v fits =
 pub decimalDigits-one : (v : ℕ) → v < 10 → decimalDigits 1 v ≡ (48 + v) ∷ []
 unfolding decimalDigits digits
 decimalDigits-one v small = let e : v % 10 ≡ v = omega arith in rw e
-
-pub decimalText-one : (v : ℕ) → v < 10 → decimalText v ≡ (48 + v) ∷ []
-unfolding decimalText digitCount
-decimalText-one v small = rw (countUpTo-one 19 v small) (decimalDigits-one v small)
 
 decimalDigits-digit : (n v i : ℕ) → i < n → (48 ≤ getD (decimalDigits n v) i 48) × (getD (decimalDigits n v) i 48 ≤ 57)
 decimalDigits-digit zero v i inside = absurd (omega arith)
@@ -228,11 +193,3 @@ length-totalText passed lines = simp length-append (omega arith)
 pub length-totalText≤52 : (passed lines : ℕ) → length (totalText passed lines) ≤ 52
 length-totalText≤52 passed lines =
     omega (arith, length-totalText passed lines, length-decimalText≤20 passed, length-decimalText≤20 lines)
-
--- one more character of a text that is copied
-pub overwrite-next : (l text : List ℕ) (at i : ℕ) → i < length text → at + i < length l → set (overwrite l at (take i text)) (at + i) (getD text i 0) ≡ overwrite l at (take (i + 1) text)
-overwrite-next l text at i inside fits =
-    let size : length (take i text) ≡ i = length-take-le i text (omega arith) in
-    set≡overwrite (overwrite l at (take i text)) (at + i) (getD text i 0) (rw (length-overwrite l at (take i text) (omega arith)) (omega arith))
-    ∙ overwrite-join l at i (take i text) (getD text i 0 ∷ []) size (omega arith)
-    ∙ ap (overwrite l at) (rw add-one (sym (take-suc text i 0 inside)))

@@ -1,6 +1,6 @@
 // What the trace program prints: document 01, "Trace lines".
 ghost use mathlib.Core.Path.{_≡_};
-ghost use Prim.Native.Nat.{_+_, _≤_, _<_};
+ghost use Prim.Native.Nat.{_+_, _≤_};
 ghost use lib.ListN.{length};
 ghost use Rattle.octets.specs.Overwrite.{overwrite};
 ghost use Rattle.report.specs.Text.{digitCount, decimalDigits, decimalText, shownText, shownPlace, resultText, totalText};

@@ -1,12 +1,14 @@
 // Reads a script by lines and collects the output, for the programs that run one.
 ghost use mathlib.Core.Path.{_≡_};
-ghost use Prim.Native.Nat.{_+_, _*_, _%_, _^_, _≤_, _<_, min};
+ghost use Prim.Native.Nat.{_+_, _*_, _%_, _^_, _≤_, _<_};
 ghost use lib.ListN.{length, getD, drop};
 ghost use Rattle.report.specs.Text.{decimalText};
 ghost use Rattle.script.specs.Output.{withByte, withBytes};
 ghost use Rattle.script.specs.Fields.{decimalValue, decimalField, fieldsText};
 use libc::STDIN_FILENO;
 use libc::STDOUT_FILENO;
+// The programs use it too.
+pub use octets::least;
 use std::num::wrapping_add_u64;
 
 // Standard input is read in pieces of this size.
@@ -44,12 +46,6 @@ impl Input {
     }
 }
 
-pub fn least(a: usize, b: usize) -> usize
-    ensures { λ r. ⌜ r ≡ min a b ⌝ }
-{
-    if a < b { a } else { b }
-}
-
 // The next byte of standard input.
 fn next_byte(chunk: &mut Chunk, input: Input) -> Arrived
     ensures { λ r. ⌜ length (now (chunk .exit)) ≡ length (now (chunk .entry)) ⌝ }
@@ -71,8 +67,9 @@ fn next_byte(chunk: &mut Chunk, input: Input) -> Arrived
     Arrived::Byte(chunk[0], Input { at: 1, have: n })
 }
 
-// Reads to the next newline or to the end of the input; what the line cannot hold is dropped. What standard input holds is free, and with
-// it the answer, the chunk's bytes and the line's first ones: promised is how far these reach, and that both buffers keep their lengths.
+// Reads to the next newline or to the end of the input; what the line cannot hold is dropped. Nothing can be promised of what standard
+// input holds: the answer, the chunk and the line's first `length` bytes are open. Promised: `length` is at most 4,096, the line is
+// unchanged past it, both buffers keep their lengths.
 pub fn next_line(chunk: &mut Chunk, line: &mut Line, start: Input) -> LineEnd
     ensures { λ r. ⌜ (r .length ≤ 4096) × (drop (r .length) (now (line .exit)) ≡ drop (r .length) (now (line .entry))) ⌝ }
     ensures { λ r. ⌜ (length (now (line .exit)) ≡ length (now (line .entry))) × (length (now (chunk .exit)) ≡ length (now (chunk .entry))) ⌝ }

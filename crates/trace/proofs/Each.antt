@@ -7,9 +7,9 @@ use native.Mathlib.Omega.{arith}
 use native.Mathlib.Nat.{add-zero, zero-add, add-assoc}
 use lib.ListN.{length, getD, length-append, List·getD-append, List·getD-eq-default}
 use lib.Seq.{getD-append-add}
+use Rattle.choice.proofs.Tests.{lt-or-ge}
 use Rattle.octets.specs.Digits.{tabulate}
 use Rattle.octets.proofs.Digits.{length-tabulate}
-use Rattle.choice.proofs.Tests.{lt-or-ge}
 
 -- of each element of l, where its first stands at place at
 abbrev pub Each : (ℕ → ℕ → Type 0) → ℕ → List ℕ → Type 0

@@ -7,15 +7,16 @@ use mathlib.Core.List.{List, [], _∷_, _++_, map, map-append, append-assoc, app
 use native.Mathlib.Omega.{arith}
 use native.Mathlib.Nat.{pow-le-pow-right}
 use native.Mathlib.Numerals.{add-one}
-use lib.ListN.{length, getD, take, drop, length-append, length-map, take-append-drop, List·getD-map}
+use lib.ListN.{length, getD, take, drop, length-append, take-append-drop, List·getD-map}
 use lib.Seq.{getD-take, getD-drop, drop-cons, drop-at, length-take-le, take-add}
 use borrow.Author.Tests.{lt-ltb, le-ltb}
 use Rattle.choice.specs.Choice.{if_then_else_}
 use Rattle.choice.proofs.Choice.{if-true, if-false}
-use Rattle.octets.specs.Digits.{tabulate, number, digits}
-use Rattle.octets.proofs.Digits.{length-digits, number-cong, number-digits, digits-number, number<base^n, tabulate-cong, map-tabulate, tabulate-getD}
-use Rattle.trace.specs.Hex.{isDecimal, isLetter, isHex, hexValue, hexDigit, hexNumber, hexDigits, hexPairs}
 use Rattle.choice.proofs.Tests.{true-or-false, lt-or-ge, ||-true, between, not-between-below, not-between-above, between-true}
+use Rattle.octets.specs.Digits.{tabulate, number, digits}
+use Rattle.octets.proofs.Digits.{number-cong, number-digits, digits-number, number<base^n, tabulate-cong, map-tabulate, tabulate-getD}
+use Rattle.octets.proofs.Text.{length-map-digits, map-digits-suc}
+use Rattle.trace.specs.Hex.{isDecimal, isLetter, isHex, hexValue, hexDigit, hexNumber, hexDigits, hexPairs}
 
 -- One digit
 
@@ -103,12 +104,12 @@ hexValue<16 b =
 
 pub length-hexDigits : (n v : ℕ) → length (hexDigits n v) ≡ n
 unfolding hexDigits
-length-hexDigits n v = length-map (digits 16 n v) hexDigit ∙ length-digits 16 n v
+length-hexDigits = length-map-digits hexDigit 16
 
 -- the last digit is the remainder, and those before it are the quotient's
 pub hexDigits-suc : (n v : ℕ) → hexDigits (suc n) v ≡ hexDigits n (v / 16) ++ (hexDigit (v % 16) ∷ [])
-unfolding hexDigits digits
-hexDigits-suc n v = map-append hexDigit (digits 16 n (v / 16)) (v % 16 ∷ [])
+unfolding hexDigits
+hexDigits-suc = map-digits-suc hexDigit 16
 
 map-hexValue-hexDigits : (n v : ℕ) → map hexValue (hexDigits n v) ≡ digits 16 n v
 unfolding digits hexDigits

@@ -11,11 +11,12 @@ use lib.Seq.{take-at, drop-at, drop-drop, drop-cons, take-all}
 use borrow.Author.Tests.{ne-eqb, eqb-true}
 use Rattle.choice.specs.Choice.{if_then_else_, _=ᵇ_}
 use Rattle.choice.proofs.Choice.{if-true, if-false}
+use Rattle.choice.proofs.Tests.{||-true}
+use Rattle.octets.specs.Octets.{Octets}
 use Rattle.octets.specs.Digits.{digits}
 use Rattle.octets.proofs.Digits.{length-tabulate, tabulate-cong, tabulate-getD}
 use Rattle.trace.specs.Hex.{isHex, hexDigit, hexNumber, hexDigits, hexPairs}
 use Rattle.trace.specs.Line.{mayStand, LegalLine, LegalValues, sideOf, clockOf, packetLength, packetOf, lineOf}
-use Rattle.choice.proofs.Tests.{||-true}
 use Rattle.trace.proofs.Each.{Each, each-none, each-one, each-append, each-tabulate, each-getD}
 use Rattle.trace.proofs.Hex.{isHex-hexDigit, length-hexDigits, hexDigits-suc, hexNumber-hexDigits, hexNumber<16^n, hexDigits-hexNumber, length-hexPairs, hexPairs-drop, drop-hexPairs, hexPairs-tabulate}
 
@@ -102,7 +103,7 @@ module _ (side clock : ℕ) (packet : List ℕ) where
       rw (← drop-drop (2 * i) 15 (lineOf side clock packet), drop-15-lineOf, drop-hexPairs packet i (omega arith), hexPairs-drop packet i h)
       (take-at (hexDigits 2 (getD packet i 0)) (hexPairs (drop (i + 1) packet)) 2 (length-hexDigits 2 (getD packet i 0)))
 
-  pub packetOf-lineOf : ((i : ℕ) → getD packet i 0 < 256) → packetOf (lineOf side clock packet) ≡ packet
+  pub packetOf-lineOf : Octets packet → packetOf (lineOf side clock packet) ≡ packet
   unfolding packetOf
   packetOf-lineOf each =
       rw packetLength-lineOf

@@ -8,11 +8,11 @@ use native.Mathlib.Omega.{arith}
 use native.Mathlib.Nat.{zero-add}
 use lib.ListN.{length, getD, take, drop, length-append, length-take, length-drop, replicate, length-replicate, getD-replicate}
 use lib.Seq.{length-take-le, getD-take, getD-drop, take-append-seam}
+use Rattle.choice.proofs.Tests.{true-or-false, lt-or-ge, false-true}
 use Rattle.trace.specs.Line.{mayStand, LegalLine, packetLength, lineOf}
 use Rattle.trace.specs.Read.{firstIllegal, wellFormed, readLine}
 use Rattle.trace.specs.Offset.{PossibleBefore, ImpossibleAt, RefusedBy22}
 use Rattle.trace.specs.declared.LineRead.the-variants.{Malformed}
-use Rattle.choice.proofs.Tests.{true-or-false, lt-or-ge, false-true}
 use Rattle.trace.proofs.Each.{Each, each-append, each-getD}
 use Rattle.trace.proofs.Line.{Stand, lineOf-legal}
 use Rattle.trace.proofs.Read.{firstIllegal≤length, firstIllegal-before, firstIllegal-here, legal-wellFormed, wellFormed-legal, readLine-malformed, readLine-no-room, readLine-frame}
@@ -58,10 +58,6 @@ legal-not-malformed l n room offset legal refused =
     (lt-or-ge room (packetLength l))
 
 -- The theorems
-
--- the offset is a place of the line, or its length
-pub offset-within : (l : List ℕ) → firstIllegal l ≤ length l
-offset-within l = firstIllegal≤length l
 
 -- a legal line begins with the bytes before the offset
 pub possible-before : PossibleBefore

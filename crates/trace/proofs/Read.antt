@@ -9,11 +9,11 @@ use lib.ListN.{length, getD}
 use borrow.Author.Tests.{lt-ltb, le-ltb, le-leb, lt-leb, leb-true, eq-eqb, ne-eqb, eqb-true}
 use Rattle.choice.specs.Choice.{if_then_else_, _≤ᵇ_, _=ᵇ_}
 use Rattle.choice.proofs.Choice.{if-true, if-false}
+use Rattle.choice.proofs.Tests.{lt-or-ge, false-true, &&-true}
 use Rattle.trace.specs.Hex.{isHex}
 use Rattle.trace.specs.Line.{mayStand, LegalLine, sideOf, clockOf, packetLength}
 use Rattle.trace.specs.Read.{illegalFrom, firstIllegal, HexFrom, wellFormed, readLine}
 use Rattle.trace.specs.declared.LineRead.the-variants.{TooLong, Malformed, NoRoom, Frame}
-use Rattle.choice.proofs.Tests.{lt-or-ge, false-true, &&-true}
 use Rattle.trace.proofs.Line.{packetLength-legal}
 
 -- The first illegal byte, with n - i bytes left

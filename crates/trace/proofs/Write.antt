@@ -1,18 +1,19 @@
 -- Laws of writing: the fields of a line, and the answer where all fits.
-use Prim.Native.Nat.{ℕ, suc, _+_, _*_, _-_, _/_, _%_, _^_, _≤_, _<_}
-use mathlib.Core.Path.{_≡_, refl, sym, ap, _∙_}
+use Prim.Native.Nat.{ℕ, _+_, _*_, _-_, _/_, _%_, _^_, _≤_, _<_}
+use mathlib.Core.Path.{_≡_, refl, ap, _∙_}
 use mathlib.Core.List.{List, [], _∷_, _++_, append-assoc}
 use native.Mathlib.Omega.{arith}
 use lib.ListN.{length, getD, drop, set, length-append}
 use borrow.Author.Tests.{le-ltb, lt-leb, ne-eqb}
 use Rattle.choice.proofs.Choice.{if-false}
 use Rattle.octets.specs.Overwrite.{overwrite}
-use Rattle.octets.proofs.Overwrite.{set≡overwrite, set-set≡overwrite, length-overwrite, overwrite-join, overwrite-set}
+use Rattle.octets.proofs.Overwrite.{set≡overwrite, set-set≡overwrite, length-overwrite, overwrite-join}
+use Rattle.octets.proofs.Text.{overwrite-map-digits}
 use Rattle.trace.specs.Hex.{hexDigit, hexDigits, hexPairs}
 use Rattle.trace.specs.Line.{LegalValues, lineOf}
 use Rattle.trace.specs.Write.{writeLine}
 use Rattle.trace.specs.declared.LineWrite.the-variants.{Written}
-use Rattle.trace.proofs.Hex.{length-hexDigits, hexDigits-suc, hexPairs-drop}
+use Rattle.trace.proofs.Hex.{length-hexDigits, hexPairs-drop}
 
 pub writeLine-written : (side clock n room : ℕ) → side < 2 → clock < 2 ^ 48 → 1 ≤ n → n ≤ 2048 → 15 + 2 * n ≤ room → writeLine side clock n room ≡ Written (15 + 2 * n)
 unfolding writeLine
@@ -29,10 +30,8 @@ writeLine-legal side clock packet room legal fits =
 
 -- the last digit, stored first, leaves the digits before it to be written
 pub overwrite-hexDigits : (l : List ℕ) (at i v : ℕ) → 0 < i → at + i ≤ length l → overwrite (set l (at + (i - 1)) (hexDigit (v % 16))) at (hexDigits (i - 1) (v / 16)) ≡ overwrite l at (hexDigits i v)
-overwrite-hexDigits l at i v some fits =
-    let e : suc (i - 1) ≡ i = omega arith in
-    overwrite-set l at (i - 1) (hexDigit (v % 16)) (hexDigits (i - 1) (v / 16)) (length-hexDigits (i - 1) (v / 16)) (omega arith)
-    ∙ ap (overwrite l at) (rw e at (sym (hexDigits-suc (i - 1) v)))
+unfolding hexDigits
+overwrite-hexDigits = overwrite-map-digits hexDigit 16
 
 -- a pair, written, leaves the pairs after it to be written
 pub overwrite-hexPairs : (l bs : List ℕ) (i : ℕ) → i < length bs → 15 + 2 * i + 2 ≤ length l → overwrite (overwrite l (15 + 2 * i) (hexDigits 2 (getD bs i 0))) (15 + 2 * (i + 1)) (hexPairs (drop (i + 1) bs)) ≡ overwrite l (15 + 2 * i) (hexPairs (drop i bs))

@@ -6,6 +6,7 @@ use mathlib.Core.Bool.{Bool, true, _||_}
 use mathlib.Core.List.{List, _∷_, _++_}
 use lib.ListN.{length, getD}
 use Rattle.choice.specs.Choice.{if_then_else_, _=ᵇ_}
+use Rattle.octets.specs.Octets.{Octets}
 use Rattle.octets.specs.Digits.{tabulate}
 use Rattle.trace.specs.Hex.{isHex, hexNumber, hexDigits, hexPairs}
 
@@ -31,7 +32,7 @@ pub record LegalValues (side clock : ℕ) (packet : List ℕ) : Type 0 where
   pub clock-fits : clock < 2 ^ 48
   pub some : 1 ≤ length packet
   pub most : length packet ≤ 2048
-  pub each : (i : ℕ) → getD packet i 0 < 256
+  pub each : Octets packet
 
 -- The fields of a line
 

@@ -44,6 +44,10 @@ packetAfter (Malformed offset) l out = out
 packetAfter NoRoom l out = out
 packetAfter (Frame side clock n) l out = overwrite out 0 (packetOf l)
 
+-- what `packet` holds after `line` was read to it
+abbrev pub packetAfterReading : List ℕ → List ℕ → List ℕ
+packetAfterReading line packet = packetAfter (readLine line (length packet)) line packet
+
 -- Document 01's numbers
 
 -- its number and values for each case; it leaves the offset of a frame free: 0 here

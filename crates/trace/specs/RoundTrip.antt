@@ -4,18 +4,18 @@ use mathlib.Core.Path.{_≡_}
 use mathlib.Core.List.{List}
 use lib.ListN.{length, take}
 use Rattle.trace.specs.Line.{LegalLine, LegalValues, sideOf, clockOf}
-use Rattle.trace.specs.Read.{readLine, packetAfter}
-use Rattle.trace.specs.Write.{writeLine, lineAfter}
+use Rattle.trace.specs.Read.{readLine, packetAfterReading}
+use Rattle.trace.specs.Write.{writeLine, lineAfterWriting}
 use Rattle.trace.specs.declared.LineRead.the-variants.{Frame}
 use Rattle.trace.specs.declared.LineWrite.the-variants.{Written}
 
 -- the first n characters of `line` after side, clock and packet were written to it
 abbrev pub charactersWritten : ℕ → ℕ → ℕ → List ℕ → List ℕ → List ℕ
-charactersWritten n side clock packet line = take n (lineAfter (writeLine side clock (length packet) (length line)) side clock packet line)
+charactersWritten n side clock packet line = take n (lineAfterWriting side clock packet line)
 
 -- the first n bytes of `out` after the line l was read to it
 abbrev pub bytesRead : ℕ → List ℕ → List ℕ → List ℕ
-bytesRead n l out = take n (packetAfter (readLine l (length out)) l out)
+bytesRead n l out = take n (packetAfterReading l out)
 
 -- side, clock and packet are written to `line`, and the line that then stands there is read to `out`: they are what is read
 pub record ReadWritten (side clock : ℕ) (packet line out : List ℕ) : Type 0 where

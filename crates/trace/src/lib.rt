@@ -1,13 +1,14 @@
 // Trace lines: document 01, "Trace lines". One line holds one packet with its side and clock.
 ghost use mathlib.Core.Path.{_≡_};
-ghost use Prim.Native.Nat.{_+_, _*_, _^_, _≤_, _<_, min, max};
+ghost use mathlib.Core.Bool.{true};
+ghost use Prim.Native.Nat.{_+_, _*_, _^_, _≤_, _<_, max};
 ghost use lib.ListN.{length};
 ghost use Rattle.octets.specs.Overwrite.{overwrite};
 ghost use Rattle.trace.specs.Hex.{isHex, hexValue, hexDigit, hexNumber, hexDigits, hexPairs};
 ghost use Rattle.trace.specs.Line.{mayStand, packetLength, packetOf, lineOf};
-ghost use mathlib.Core.Bool.{true};
-ghost use Rattle.trace.specs.Read.{illegalFrom, firstIllegal, HexFrom, readLine, packetAfter, readAnswer, reading};
-ghost use Rattle.trace.specs.Write.{writeLine, lineAfter, writeAnswer, writing};
+ghost use Rattle.trace.specs.Read.{illegalFrom, firstIllegal, HexFrom, readLine, packetAfterReading, readAnswer, reading};
+ghost use Rattle.trace.specs.Write.{writeLine, lineAfterWriting, writeAnswer, writing};
+use octets::least;
 
 // What reading a line finds.
 pub enum LineRead {
@@ -30,7 +31,7 @@ pub enum LineWrite {
     // 24: a packet that is empty or over 2,048 bytes.
     PacketLength,
     // 23: the line does not fit the output.
-    NoSpace,
+    NoRoom,
     // 0: so many characters are in the output.
     Written(usize),
 }
@@ -102,13 +103,13 @@ impl LineWrite {
                 number: 24,
                 length: 0,
             },
-            LineWrite::NoSpace => WriteAnswer {
+            LineWrite::NoRoom => WriteAnswer {
                 number: 23,
                 length: 0,
             },
-            LineWrite::Written(n) => WriteAnswer {
+            LineWrite::Written(length) => WriteAnswer {
                 number: 0,
-                length: n,
+                length: length,
             },
         }
     }
@@ -193,12 +194,6 @@ fn any_not_hex(line: &[u8]) -> u8
     worst
 }
 
-fn least(a: usize, b: usize) -> usize
-    ensures { λ r. ⌜ r ≡ min a b ⌝ }
-{
-    if a < b { a } else { b }
-}
-
 // An illegal byte is rare: all bytes are tested at once, and only if one is no digit is it looked for.
 fn first_illegal(line: &[u8]) -> usize
     ensures { λ r. ⌜ r ≡ firstIllegal (now (line .entry)) ⌝ }
@@ -241,11 +236,11 @@ fn read_packet(line: &[u8], n: usize, packet: &mut [u8])
     }
 }
 
-// Reads a line into packet.
+// Reads a line into packet. Document 01 leaves the offset free where the line is read: it is 0 here.
 pub fn read_line(line: &[u8], packet: &mut [u8]) -> LineRead
     ensures { λ r.
         ⌜ (r ≡ readLine (now (line .entry)) (length (now (packet .entry))))
-        × (now (packet .exit) ≡ packetAfter r (now (line .entry)) (now (packet .entry)))
+        × (now (packet .exit) ≡ packetAfterReading (now (line .entry)) (now (packet .entry)))
         × (readAnswer r ≡ reading (now (line .entry)) (now (packet .entry))) ⌝ }
 {
     let len = line.len();
@@ -256,11 +251,9 @@ pub fn read_line(line: &[u8], packet: &mut [u8]) -> LineRead
     if offset != len {
         return LineRead::Malformed(offset);
     }
-    if len < 17 {
-        return LineRead::Malformed(offset);
-    }
-    if len % 2 != 1 {
-        return LineRead::Malformed(offset);
+    // It stops before its first packet byte, or at an odd digit.
+    if len < 17 || len % 2 != 1 {
+        return LineRead::Malformed(len);
     }
     let n = (len - 15) / 2;
     if packet.len() < n {
@@ -318,7 +311,7 @@ fn write_fields(side: u8, clock: u64, packet: &[u8], line: &mut [u8])
 pub fn write_line(side: u8, clock: u64, packet: &[u8], line: &mut [u8]) -> LineWrite
     ensures { λ r.
         ⌜ (r ≡ writeLine side clock (length (now (packet .entry))) (length (now (line .entry))))
-        × (now (line .exit) ≡ lineAfter r side clock (now (packet .entry)) (now (line .entry)))
+        × (now (line .exit) ≡ lineAfterWriting side clock (now (packet .entry)) (now (line .entry)))
         × (writeAnswer r ≡ writing side clock (now (packet .entry)) (now (line .entry))) ⌝ }
 {
     let n = packet.len();
@@ -336,7 +329,7 @@ pub fn write_line(side: u8, clock: u64, packet: &[u8], line: &mut [u8]) -> LineW
     }
     let whole = 15 + 2 * n;
     if line.len() < whole {
-        return LineWrite::NoSpace;
+        return LineWrite::NoRoom;
     }
     write_fields(side, clock, packet, line);
     LineWrite::Written(whole)

@@ -1,7 +1,7 @@
 -- The octets of a word the other way round, lowest first, are its octets.
+use Prim.Native.Nat.{ℕ}
 use mathlib.Core.Path.{ap, _∙_}
 use mathlib.Core.List.{List}
-use Prim.Native.Nat.{ℕ}
 use native.Mathlib.Omega.{arith}
 use Rattle.octets.specs.Overwrite.{overwrite}
 use Rattle.octets.proofs.LittleEndian.{littleOctets-swapped}

@@ -1,5 +1,5 @@
-use mathlib.Core.Path.{sym, _∙_}
 use Prim.Native.Nat.{_+_}
+use mathlib.Core.Path.{sym, _∙_}
 use native.Mathlib.Omega.{arith}
 use Rattle.choice.proofs.Choice.{if-<, if-<-not}
 use Rattle.packet.specs.Tails.{rows9to10}

@@ -1,7 +1,7 @@
 use mathlib.Core.Path.{ap, _∙_}
 use borrow.Author.Needs.{needs}
-use Rattle.quaybonnet.specs.Packed.{packed}
 use Rattle.filter.proofs.Fits.{reply-small}
+use Rattle.quaybonnet.specs.Packed.{packed}
 use Rattle.quaybonnet.proofs.qb_filter.Statement.{statement}
 use Rattle.quaybonnet.proofs.qb_filter.Tie as tie
 

@@ -1,8 +1,6 @@
 -- The numbers are those of the answer, field by field; the bytes are those that `trace` leaves.
 use mathlib.Core.Path.{ap, _∙_}
 use borrow.Author.Needs.{needs}
-use Rattle.trace.specs.Write.{lineAfter}
-use Rattle.trace.specs.declared.LineWrite.{LineWrite}
 use Rattle.trace.specs.declared.WriteAnswer.WriteAnswer.{number, length}
 use Rattle.quaybonnet.proofs.qb_write_line.Statement.{statement}
 use Rattle.quaybonnet.proofs.qb_write_line.Tie as tie
@@ -18,10 +16,9 @@ same-length c = search needs
 
 returns : tie.Need-returns
 returns c =
-    let a = c .before .before .before .before .before .before .before .args in
     let written = c .before .before .before .write-line .ensures in
     let answer = c .answer .ensures ∙ written .2 in
-    (ap number answer, ap length answer, written .1 ∙ ap (λ (r : LineWrite). lineAfter r (a .side) (a .clock) (a .packet .now) (a .line .now)) (written .0))
+    (ap number answer, ap length answer, written .1)
 
 pub qb-write-line-spec : {M : Type 1} → statement M
 qb-write-line-spec = tie.close (tie.spec write-line-requires answer-requires same-length returns)

@@ -25,7 +25,7 @@ framed c =
     let read = c .before .before in
     let a = read .before .before .before .before .args in
     let n = c .read2 .given .0 .1 .1 .0 in
-    rw (sub-zero n, read .read-line .ensures .1) (frame-packet (a .text .now) (a .packet .now) (read .read-line .result) _ _ n (read-as read) (c .read2 .given .1) (packet-room read))
+    rw (sub-zero n, read .read-line .ensures .1) (frame-packet (a .text .now) (a .packet .now) _ _ n (sym (read-as read) ∙ c .read2 .given .1) (packet-room read))
 
 read-line-requires : tie.Need-read-line-requires
 read-line-requires c κs = search needs

@@ -5,8 +5,7 @@ use native.Mathlib.Omega.{arith}
 use lib.ListN.{length, take, length-set}
 use lib.Seq.{take-all}
 use Rattle.octets.specs.Overwrite.{overwrite}
-use Rattle.octets.proofs.Overwrite.{overwrite-nothing}
-use Rattle.report.proofs.Text.{overwrite-next}
+use Rattle.octets.proofs.Overwrite.{overwrite-nothing, overwrite-take-next}
 use Rattle.report.proofs.put_text.Statement.{statement}
 use Rattle.report.proofs.put_text.Tie as tie
 
@@ -40,7 +39,7 @@ loop-again c =
     let l = c .before .before .loop in (
       omega arith,
       simp length-set (l .inv .1),
-      rw (l .inv .2) (overwrite-next (a .out .now) (a .text .now) (a .at) (l .i) (omega arith) (omega arith)),
+      rw (l .inv .2) (overwrite-take-next (a .out .now) (a .text .now) (a .at) (l .i) (omega arith) (omega arith)),
     )
 
 add-result : tie.Need-add-result Inv-loop μ-loop

@@ -1,6 +1,6 @@
 -- The parts, written one after the other, are the line.
-use native.Mathlib.Omega.{arith}
 use mathlib.Core.List.{[], _∷_}
+use native.Mathlib.Omega.{arith}
 use Rattle.report.specs.Text.{passedText, ofText, decimalText, totalText}
 use Rattle.report.proofs.Text.{length-totalText, written-then, written-as, append-5}
 use borrow.Author.Needs.{needs}

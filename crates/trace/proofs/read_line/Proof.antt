@@ -2,11 +2,13 @@
 use Prim.Native.Nat.{ℕ, _≤_}
 use mathlib.Core.Path.{_≡_, refl, sym, ap, _∙_}
 use mathlib.Core.Bool.{true, false}
+use mathlib.Core.Logic.{⊎-elim}
 use mathlib.Core.List.{List}
 use native.Mathlib.Omega.{arith}
 use lib.ListN.{length}
+use borrow.Author.Tests.{eqb-true, eqb-false, not-true, not-false}
 use Rattle.trace.specs.Line.{sideOf, clockOf, packetLength}
-use Rattle.trace.specs.Read.{firstIllegal, wellFormed, readLine, packetAfter, readAnswer, reading}
+use Rattle.trace.specs.Read.{firstIllegal, wellFormed, readLine, packetAfter, packetAfterReading, readAnswer, reading}
 use Rattle.trace.specs.declared.LineRead.{LineRead}
 use Rattle.trace.specs.declared.LineRead.the-variants.{Malformed, Frame}
 use Rattle.trace.proofs.Line.{sideOf-legal}
@@ -19,13 +21,13 @@ malformed : (l out : List ℕ) (offset : ℕ) → offset ≡ firstIllegal l → 
 unfolding packetAfter
 malformed l out offset e short bad = (ap Malformed e ∙ sym (readLine-malformed l (length out) short bad), refl)
 
--- with document 01's numbers
-told : (l out : List ℕ) {r : LineRead} {after : List ℕ} → (r ≡ readLine l (length out)) × (after ≡ packetAfter r l out) → (r ≡ readLine l (length out)) × (after ≡ packetAfter r l out) × (readAnswer r ≡ reading l out)
-told l out p = (p .0, p .1, ap readAnswer (p .0))
+-- the bytes by the line and the output alone, and document 01's numbers
+told : (l out : List ℕ) {r : LineRead} {after : List ℕ} → (r ≡ readLine l (length out)) × (after ≡ packetAfter r l out) → (r ≡ readLine l (length out)) × (after ≡ packetAfterReading l out) × (readAnswer r ≡ reading l out)
+told l out p = (p .0, p .1 ∙ ap (λ r. packetAfter r l out) (p .0), ap readAnswer (p .0))
 
 well-formed : (c : tie.Else4) → wellFormed (c .before .before .before .before .before .before .before .args .line .now) ≡ true
 well-formed c =
-    wellFormed-true (c .before .before .before .before .before .before .before .args .line .now) (sym (c .before .before .before .first-illegal .ensures) ∙ c .before .before .if2 .left) (c .before .if3 .left) (c .if4 .left)
+    wellFormed-true (c .before .before .before .before .before .before .before .args .line .now) (sym (c .before .before .before .first-illegal .ensures) ∙ c .before .before .if2 .left) (c .before .if3 .left) (eqb-true _ 1 (not-false _ (c .if4 .left)))
 
 returns : tie.Need-returns
 unfolding packetAfter
@@ -45,19 +47,16 @@ returns-2 c =
 returns-3 : tie.Need-returns-3
 returns-3 c =
     let a = c .before .before .before .before .before .before .args in
-    told (a .line .now) (a .packet .now) (malformed (a .line .now) (a .packet .now) _ (c .before .before .first-illegal .ensures) (omega arith) (short-malformed (a .line .now) (omega arith)))
-
-returns-4 : tie.Need-returns-4
-returns-4 c =
-    let a = c .before .before .before .before .before .before .before .args in
-    told (a .line .now) (a .packet .now) (malformed (a .line .now) (a .packet .now) _ (c .before .before .before .first-illegal .ensures) (omega arith) (even-malformed (a .line .now) (c .if4 .taken)))
+    let all = sym (c .before .if2 .left) ∙ c .before .before .first-illegal .ensures in
+    let early = ⊎-elim (λ short. short-malformed (a .line .now) (short .taken)) (λ odd. even-malformed (a .line .now) (eqb-false _ 1 (not-true _ (odd .1 .taken)))) (c .if3 .came) in
+    told (a .line .now) (a .packet .now) (malformed (a .line .now) (a .packet .now) _ all (omega arith) early)
 
 sub-n : tie.Need-sub-n
 sub-n c = search needs
 
-returns-5 : tie.Need-returns-5
+returns-4 : tie.Need-returns-4
 unfolding packetAfter packetLength
-returns-5 c =
+returns-4 c =
     let a = c .before .before .before .before .before .before .before .before .args in
     told (a .line .now) (a .packet .now) (sym (readLine-no-room (a .line .now) (length (a .packet .now)) (omega arith) (well-formed (c .before)) (c .if5 .taken)), refl)
 
@@ -79,9 +78,9 @@ read-packet-requires c κs = (omega arith, refl, omega arith)
 same-length : tie.Need-same-length
 same-length c = search needs
 
-returns-6 : tie.Need-returns-6
+returns-5 : tie.Need-returns-5
 unfolding packetAfter packetLength sideOf clockOf
-returns-6 c =
+returns-5 c =
     let a = c .before .before .before .before .before .before .before .before .before .before .before .before .before .before .args in told (a .line .now) (a .packet .now) (
       ap (λ (k : ℕ). Frame (sideOf (a .line .now)) k (packetLength (a .line .now))) (c .before .before .before .before .hex-number .ensures .0)
           ∙ sym (readLine-frame (a .line .now) (length (a .packet .now)) (omega arith) (well-formed (c .before .before .before .before .before .before .before)) (omega arith)),
@@ -96,12 +95,11 @@ read-line-spec =
     first-illegal-requires
     returns-2
     returns-3
-    returns-4
     sub-n
-    returns-5
+    returns-4
     shared-slice-read-side
     sub-side
     hex-number-requires
     read-packet-requires
     same-length
-    returns-6)
+    returns-5)
