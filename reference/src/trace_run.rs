@@ -1,10 +1,11 @@
 //! The trace program (document 01, "Trace lines"): lines in, an answer for
-//! each and the total out.
+//! each and the total out. A line is kept no further than what shows it to be
+//! over-long, however long it is.
 
 use crate::filter::{filter, NO_PLACE, PASSED};
 use crate::table::ENTRY;
 use crate::trace::{self, LineRead};
-use std::io::{self, Read, Write};
+use std::io::{self, BufRead, BufReader, BufWriter, Read, Write};
 
 /// "The program's table has 64 places"
 pub const PLACES: usize = 64;
@@ -81,64 +82,43 @@ fn refused(read: &LineRead) -> LineAnswer {
 
 impl LineAnswer {
     /// "prints per line the answer, a space, and the place (`-` for 65,535)"
-    pub fn print(&self, output: &mut Vec<u8>) {
-        let printed = match self.number {
+    pub fn print(&self, output: &mut impl Write) -> io::Result<()> {
+        match self.number {
             Some(number) => writeln!(output, "{} {number}", self.answer),
             None => writeln!(output, "{} -", self.answer),
-        };
-        printed.expect("memory takes every byte");
+        }
     }
 }
 
 /// The whole program: reads lines up to the end of the input and prints.
 pub fn run(input: &mut impl Read, output: &mut impl Write) -> io::Result<()> {
+    let mut input = BufReader::with_capacity(PIECE, input);
+    let mut output = BufWriter::with_capacity(PIECE, output);
     let mut run = TraceRun::default();
-    let mut printed = Vec::with_capacity(2 * PIECE);
-    // The start of a line whose newline has not come yet.
-    let mut begun: Vec<u8> = Vec::with_capacity(CUT);
-    let mut piece = vec![0; PIECE];
-    loop {
-        let length = match input.read(&mut piece) {
-            Ok(length) => length,
-            Err(error) if error.kind() == io::ErrorKind::Interrupted => continue,
-            Err(error) => return Err(error),
-        };
-        if length == 0 {
-            break;
-        }
-        for part in piece[..length].split_inclusive(|&byte| byte == b'\n') {
-            let Some(rest) = part.strip_suffix(b"\n") else {
-                extend_line(&mut begun, part);
-                continue;
-            };
-            let answer = if begun.is_empty() {
-                run.line(rest)
-            } else {
-                extend_line(&mut begun, rest);
-                run.line(&begun)
-            };
-            begun.clear();
-            answer.print(&mut printed);
-        }
-        if printed.len() >= PIECE {
-            output.write_all(&printed)?;
-            printed.clear();
-        }
+    let mut line = Vec::with_capacity(CUT);
+    while next_line(&mut input, &mut line)? {
+        run.line(&line).print(&mut output)?;
     }
-    // "A last line without a newline is a line if it has any byte"
-    if !begun.is_empty() {
-        run.line(&begun).print(&mut printed);
-    }
-    printed.extend(run.total().bytes());
-    output.write_all(&printed)?;
+    output.write_all(run.total().as_bytes())?;
     output.flush()
 }
 
-/// "An over-long line is skipped to its newline": bytes past the cut are
-/// dropped, as they no longer change what the line gives.
-fn extend_line(begun: &mut Vec<u8>, part: &[u8]) {
-    let room = CUT - begun.len();
-    begun.extend_from_slice(&part[..part.len().min(room)]);
+/// Reads a line without its newline into the buffer. False if there is none:
+/// "A last line without a newline is a line if it has any byte".
+fn next_line(input: &mut impl BufRead, line: &mut Vec<u8>) -> io::Result<bool> {
+    line.clear();
+    // The longest legal line and its newline are as many bytes as the cut.
+    input.take(CUT as u64).read_until(b'\n', line)?;
+    if line.last() == Some(&b'\n') {
+        line.pop();
+        return Ok(true);
+    }
+    // "An over-long line is skipped to its newline": what comes past the cut
+    // no longer changes what the line gives.
+    if line.len() == CUT {
+        input.skip_until(b'\n')?;
+    }
+    Ok(!line.is_empty())
 }
 
 #[cfg(test)]
@@ -217,6 +197,56 @@ mod tests {
             let between = format!("{input}\n{longest}\n{input}\n\n");
             let expected = "21 -\n5 -\n21 -\n22 0\npassed 0 of 4\n";
             assert_eq!(printed(between.as_bytes()), expected);
+            let before_the_last = format!("{input}\n{longest}");
+            let expected = "21 -\n5 -\npassed 0 of 2\n";
+            assert_eq!(printed(before_the_last.as_bytes()), expected);
+            // Nothing follows its newline, so no line does.
+            let ended = format!("{input}\n");
+            assert_eq!(printed(ended.as_bytes()), "21 -\npassed 0 of 1\n");
         }
+    }
+
+    /// Lines at the cut are told apart by their newline alone, and one far past
+    /// it takes no more memory.
+    #[test]
+    fn lines_are_cut() {
+        let lengths = [0, 1, CUT - 1, CUT, CUT + 1, 2 * CUT, 0, 1_000_000, 3];
+        let lines = lengths.map(|length| "x".repeat(length));
+        for last in ["", "\n"] {
+            let text = lines.join("\n") + last;
+            let mut input = text.as_bytes();
+            let mut line = Vec::with_capacity(CUT);
+            for length in lengths {
+                assert!(next_line(&mut input, &mut line).expect("memory has no errors"));
+                assert_eq!(line.len(), length.min(CUT));
+            }
+            assert!(!next_line(&mut input, &mut line).expect("memory has no errors"));
+            assert_eq!(line.capacity(), CUT);
+        }
+    }
+
+    /// What an error leaves printed does not matter, but it is passed on.
+    #[test]
+    fn errors_are_passed_on() {
+        struct Broken;
+        impl Read for Broken {
+            fn read(&mut self, _: &mut [u8]) -> io::Result<usize> {
+                Err(io::ErrorKind::ConnectionReset.into())
+            }
+        }
+        impl Write for Broken {
+            fn write(&mut self, _: &[u8]) -> io::Result<usize> {
+                Err(io::ErrorKind::BrokenPipe.into())
+            }
+            fn flush(&mut self) -> io::Result<()> {
+                Ok(())
+            }
+        }
+        let mut example = EXAMPLE.as_bytes();
+        let kind = |result: io::Result<()>| result.err().map(|error| error.kind());
+        let unread = run(&mut Broken, &mut Vec::new());
+        assert_eq!(kind(unread), Some(io::ErrorKind::ConnectionReset));
+        let unwritten = run(&mut example, &mut Broken);
+        assert_eq!(kind(unwritten), Some(io::ErrorKind::BrokenPipe));
     }
 }

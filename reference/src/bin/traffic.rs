@@ -29,11 +29,8 @@ fn print_lines(seed: u64, count: usize, output: &mut impl Write) -> io::Result<(
 
 fn print_expected(seed: u64, count: usize, output: &mut impl Write) -> io::Result<()> {
     let mut run = TraceRun::default();
-    let mut printed = Vec::new();
     for line in lines(seed, count) {
-        run.line(&line).print(&mut printed);
-        output.write_all(&printed)?;
-        printed.clear();
+        run.line(&line).print(output)?;
     }
     output.write_all(run.total().as_bytes())
 }

@@ -1,5 +1,6 @@
-//! Direct calls of a filter, each with a table of its own: beside those of a
-//! run also illegal sides, clocks and lengths and unsound tables, alone and
+//! Direct calls of a filter, each with a table of its own: those of runs from
+//! fresh tables and from tables that are live up to their last places, and
+//! beside them illegal sides, clocks and lengths and unsound tables, alone and
 //! together, so that the order of the first rows decides.
 
 use super::draft::LONGEST_HEADERS;
@@ -12,6 +13,9 @@ use crate::table::CLOCK_LIMIT;
 const LONGEST_PAYLOAD: usize = 65_535 - LONGEST_HEADERS;
 /// Calls over one table, before another is begun.
 const CALLS_PER_TABLE: usize = 500;
+/// How many places a table can have. So few calls never fill the largest from
+/// fresh, and some worlds begin with a filled one.
+const SIZES: [usize; 7] = [1, 2, 3, 8, 64, 511, 512];
 
 /// What a call is given.
 #[derive(Clone, Debug, PartialEq, Eq)]
@@ -43,9 +47,10 @@ pub fn calls(seed: u64, count: usize) -> Calls {
 }
 
 fn new_world(random: &mut Random) -> World {
-    let places = random.pick(&[1, 2, 3, 8, 64, 511, 512]);
+    let places = random.pick(&SIZES);
     let longest = random.pick(&[100, 1_460, LONGEST_PAYLOAD]);
-    World::new(random.next(), places, longest)
+    let begin = random.pick(&[World::new, World::new, World::filled]);
+    begin(random.next(), places, longest)
 }
 
 impl Iterator for Calls {
@@ -67,17 +72,18 @@ impl Iterator for Calls {
             packet: arrival.packet,
         };
         // The world goes on with the call as it was; only this copy changes.
-        self.change_table(&mut call.table);
+        self.change_table(&mut call);
         self.change_rest(&mut call);
         Some(call)
     }
 }
 
 impl Calls {
-    fn change_table(&mut self, table: &mut Vec<u8>) {
+    fn change_table(&mut self, call: &mut Call) {
         let random = &mut self.random;
+        let table = &mut call.table;
         if random.once_in(4) {
-            vary(table, random);
+            vary(table, call.clock, random);
         }
         if random.once_in(10) {
             let clause = random.pick(&CLAUSES);
@@ -107,7 +113,9 @@ impl Calls {
 #[cfg(test)]
 mod tests {
     use super::*;
-    use crate::filter::filter;
+    use crate::filter::{filter, PASSED};
+    use crate::table;
+    use std::collections::BTreeSet;
 
     #[test]
     fn every_answer_occurs() {
@@ -117,6 +125,55 @@ mod tests {
             counts[answer as usize] += 1;
         }
         assert!(counts.iter().all(|&count| count >= 4), "{counts:?}");
+    }
+
+    /// What only a table filled up to its last place can show.
+    #[derive(Clone, Copy, Debug, PartialEq, Eq, PartialOrd, Ord)]
+    enum AtTheEnd {
+        Full,
+        OpenedLast,
+        MatchedLast,
+    }
+
+    fn at_the_end(mut call: Call) -> Option<AtTheEnd> {
+        let before = call.table.clone();
+        let (answer, place) = filter(call.side, call.clock, &mut call.table, &call.packet);
+        if answer == 12 {
+            return Some(AtTheEnd::Full);
+        }
+        let place = place as usize;
+        if answer != PASSED || place + 1 != table::places(&before) {
+            return None;
+        }
+        // A pass stored the clock used.
+        let held = table::entry(&before, place).connection;
+        if held.is_live(table::clock(&call.table)) {
+            Some(AtTheEnd::MatchedLast)
+        } else {
+            Some(AtTheEnd::OpenedLast)
+        }
+    }
+
+    /// Within as many calls as the comparison with the library makes.
+    #[test]
+    fn every_size_is_used_to_its_last_place() {
+        for seed in [1, 2] {
+            let wanted = [AtTheEnd::Full, AtTheEnd::OpenedLast, AtTheEnd::MatchedLast];
+            let mut missing: BTreeSet<(usize, AtTheEnd)> = SIZES
+                .iter()
+                .flat_map(|&places| wanted.map(|event| (places, event)))
+                .collect();
+            for call in calls(seed, 200_000) {
+                if missing.is_empty() {
+                    break;
+                }
+                let places = (call.table.len() / table::ENTRY).saturating_sub(1);
+                if let Some(event) = at_the_end(call) {
+                    missing.remove(&(places, event));
+                }
+            }
+            assert!(missing.is_empty(), "seed {seed}: {missing:?}");
+        }
     }
 
     #[test]

@@ -134,7 +134,8 @@ mod tests {
         while let Some(line) = lines.next() {
             text.extend_from_slice(&line);
             text.push(b'\n');
-            line_by_line.line(&line).print(&mut expected);
+            let printed = line_by_line.line(&line).print(&mut expected);
+            printed.expect("memory has no errors");
             assert_eq!(line_by_line.table(), lines.world.table());
         }
         expected.extend(line_by_line.total().bytes());

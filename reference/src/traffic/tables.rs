@@ -1,6 +1,6 @@
-//! Tables that no run of calls from a fresh one leads to: unsound by each
-//! clause of document 01's "Sound", sound ones at its bounds, and illegal
-//! lengths.
+//! Tables that no run of calls from a fresh one leads to, or only a long one:
+//! unsound by each clause of document 01's "Sound", sound ones at its bounds,
+//! full ones, and illegal lengths.
 
 use super::random::Random;
 use crate::connection::{Connection, End};
@@ -64,7 +64,8 @@ pub fn make_unsound(table: &mut [u8], clause: Clause, random: &mut Random) {
         Clause::Fins => random.between(1, 5) as u8,
         _ => random.between(2, 5) as u8,
     };
-    table::store_entry(table, place, &sound_entry(stage, clock, random));
+    let deadline = any_deadline(clock, random);
+    table::store_entry(table, place, &sound_entry(stage, deadline, random));
     let (header, entries) = table.split_at_mut(ENTRY);
     let entry = &mut entries[ENTRY * place..ENTRY * (place + 1)];
     let end = random.index(2);
@@ -130,31 +131,70 @@ fn wrong_fins(stage: u8, random: &mut Random) -> u8 {
     }
 }
 
-/// Changes a sound table to another sound one.
-pub fn vary(table: &mut [u8], random: &mut Random) {
+/// Changes a sound table to another sound one. The clock is the one that the
+/// call is to give.
+pub fn vary(table: &mut [u8], call_clock: u64, random: &mut Random) {
     let places = table::places(table);
     let place = random.index(places);
     let clock = table::clock(table);
+    let clock_used = clock.max(call_clock);
     let entry = table::entry(table, place);
     match random.below(6) {
         0 => {
-            let stage = random.between(1, 5) as u8;
-            table::store_entry(table, place, &sound_entry(stage, clock, random));
+            let deadline = any_deadline(clock, random);
+            store_any_stage(table, place, deadline, random);
         }
         // The same connection at two places: the first live one is meant.
         1 => table::store_entry(table, random.index(places), &entry),
         2 => turn_around(table, random),
         3 => move_clock(table, random),
-        4 => move_deadlines(table, random),
-        _ => {
-            for place in 0..places {
-                if table::entry(table, place) == Entry::default() {
-                    let stage = random.between(1, 5) as u8;
-                    table::store_entry(table, place, &sound_entry(stage, clock, random));
-                }
-            }
+        4 => move_deadlines(table, clock_used, random),
+        // Random deadlines never fill a large table, nor all but its last place.
+        _ if random.once_in(2) => {
+            fill(table, places - random.index(2), clock_used, random);
+        }
+        _ => occupy(table, random),
+    }
+}
+
+/// Makes every place below the given one live at the clock, unless no sound
+/// deadline is past it. Those that are live keep their entries.
+pub fn fill(table: &mut [u8], below: usize, clock: u64, random: &mut Random) {
+    let header_clock = table::clock(table);
+    for place in 0..below {
+        if !table::entry(table, place).connection.is_live(clock) {
+            let deadline = live_deadline(header_clock, clock, random);
+            store_any_stage(table, place, deadline, random);
         }
     }
+}
+
+/// Makes every place from the given one on free or expired.
+pub fn vacate(table: &mut [u8], from: usize, random: &mut Random) {
+    let clock = table::clock(table);
+    for place in from..table::places(table) {
+        table::store_entry(table, place, &Entry::default());
+        if random.once_in(2) {
+            let deadline = random.pick(&[0, clock / 2, clock, clock]);
+            store_any_stage(table, place, deadline, random);
+        }
+    }
+}
+
+/// Leaves no place free; expired ones there will be.
+fn occupy(table: &mut [u8], random: &mut Random) {
+    let clock = table::clock(table);
+    for place in 0..table::places(table) {
+        if table::entry(table, place) == Entry::default() {
+            let deadline = any_deadline(clock, random);
+            store_any_stage(table, place, deadline, random);
+        }
+    }
+}
+
+fn store_any_stage(table: &mut [u8], place: usize, deadline: u64, random: &mut Random) {
+    let stage = random.between(1, 5) as u8;
+    table::store_entry(table, place, &sound_entry(stage, deadline, random));
 }
 
 /// Makes openers answerers: the opener is then on side 1, and the segments of
@@ -190,18 +230,25 @@ fn move_clock(table: &mut [u8], random: &mut Random) {
     table::store_clock(table, clock);
 }
 
-fn move_deadlines(table: &mut [u8], random: &mut Random) {
+/// Half of the time every connection is live after it.
+fn move_deadlines(table: &mut [u8], clock_used: u64, random: &mut Random) {
     let clock = table::clock(table);
+    let all_live = random.once_in(2);
     for place in 0..table::places(table) {
         let mut entry = table::entry(table, place);
         if entry.connection.stage != 0 {
-            entry.connection.deadline = deadline(clock, random);
+            entry.connection.deadline = if all_live {
+                live_deadline(clock, clock_used, random)
+            } else {
+                any_deadline(clock, random)
+            };
             table::store_entry(table, place, &entry);
         }
     }
 }
 
-fn deadline(clock: u64, random: &mut Random) -> u64 {
+/// Any sound one, often about the header's clock.
+fn any_deadline(clock: u64, random: &mut Random) -> u64 {
     match random.below(8) {
         0 => 0,
         1 => clock,
@@ -212,9 +259,21 @@ fn deadline(clock: u64, random: &mut Random) -> u64 {
     }
 }
 
+/// A sound one past the clock used, often the first; the last sound one, if
+/// none is past it.
+fn live_deadline(clock: u64, clock_used: u64, random: &mut Random) -> u64 {
+    let last = clock + LONGEST_LIFE;
+    let first = last.min(clock_used + 1);
+    match random.below(4) {
+        0 => first,
+        1 => last,
+        _ => random.between(first, last),
+    }
+}
+
 /// A random entry of the stage, often at the bounds of its fields. The names
 /// are few, so that packets can meet them.
-fn sound_entry(stage: u8, clock: u64, random: &mut Random) -> Entry {
+fn sound_entry(stage: u8, deadline: u64, random: &mut Random) -> Entry {
     let ends = if stage == 1 {
         let place = random.place();
         let opener = End {
@@ -246,7 +305,7 @@ fn sound_entry(stage: u8, clock: u64, random: &mut Random) -> Entry {
                 5 => 3,
                 _ => 0,
             },
-            deadline: deadline(clock, random),
+            deadline,
             ends,
         },
     }
@@ -300,7 +359,8 @@ mod tests {
         let mut table = vec![0; ENTRY * (1 + random.between(1, 9) as usize)];
         table::store_clock(&mut table, random.pick(&[0, 1_000, CLOCK_LIMIT - 1]));
         for _ in 0..random.index(4) {
-            vary(&mut table, random);
+            let call_clock = random.pick(&[0, 1_500, CLOCK_LIMIT - 1]);
+            vary(&mut table, call_clock, random);
         }
         table
     }
@@ -310,6 +370,25 @@ mod tests {
         let mut random = Random::new(1);
         for _ in 0..3_000 {
             assert!(table::is_sound(&some_table(&mut random)));
+        }
+    }
+
+    /// A table is filled up to a place and no further, whatever it held.
+    #[test]
+    fn filled_and_vacated() {
+        let mut random = Random::new(4);
+        for _ in 0..1_000 {
+            let mut table = some_table(&mut random);
+            let clock = table::clock(&table);
+            let places = table::places(&table);
+            let below = random.index(places + 1);
+            fill(&mut table, below, clock, &mut random);
+            vacate(&mut table, below, &mut random);
+            assert!(table::is_sound(&table));
+            let open = (below < places).then_some(below);
+            assert_eq!(table::lowest_open_place(&table, clock), open);
+            let live = |place| table::entry(&table, place).connection.is_live(clock);
+            assert!(!(below..places).any(live));
         }
     }
 

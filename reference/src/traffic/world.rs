@@ -1,10 +1,12 @@
-//! Traffic over one table: honest connections, and between them probes at the
-//! bounds, spoilt packets, floods, strangers and resets. The table is kept as
-//! this library's filter leaves it, so that the next packets can be aimed.
+//! Traffic over one table, fresh or filled at first: honest connections, and
+//! between them probes at the bounds, spoilt packets, floods, strangers and
+//! resets. The table is kept as this library's filter leaves it, so that the
+//! next packets can be aimed.
 
 use super::draft::{spoil, Draft};
 use super::honest::Link;
 use super::random::Random;
+use super::tables::{fill, vacate};
 use crate::connection::{Connection, ANSWERER, OPENER};
 use crate::filter::{filter, PASSED};
 use crate::packet::{ACK, FIN, RST, SYN};
@@ -15,6 +17,9 @@ const OLDEST_ACKNOWLEDGEMENT: u32 = 66_000;
 /// The most honest connections at a time.
 const MOST_LINKS: usize = 12;
 const DAY: u64 = 86_400_000;
+/// How long the entries of a filled table live at least, in ms: most calls of
+/// the world find it as full as it began.
+const FILLED_LIFE: u64 = 200_000;
 
 /// Side, clock and packet of a call.
 #[derive(Clone, Debug)]
@@ -51,6 +56,40 @@ impl World {
             links: Vec::new(),
             flood: 0,
             longest,
+        }
+    }
+
+    /// A table that is live up to its last places, so that all of a large one
+    /// is searched and taken. Of the live places the last ones can be those of
+    /// honest connections; none, one or a few after them are free or expired.
+    pub fn filled(seed: u64, places: usize, longest: usize) -> World {
+        let mut world = World::new(seed, places, longest);
+        let World {
+            random,
+            table,
+            clock,
+            ..
+        } = &mut world;
+        let live = places - random.pick(&[0, 0, 1, 1, 2, 6]).min(places);
+        let links = random.pick(&[0, 1, MOST_LINKS]).min(live);
+        table::store_clock(table, *clock);
+        fill(table, live - links, *clock + FILLED_LIFE, random);
+        world.open_links(live);
+        vacate(&mut world.table, live, &mut world.random);
+        world
+    }
+
+    /// Opens honest connections until every place below the given one is live.
+    /// The few SYNs that meet a live entry of their names open nothing, so there
+    /// are tries to spare.
+    fn open_links(&mut self, below: usize) {
+        for _ in 0..2 * MOST_LINKS {
+            let open = table::lowest_open_place(&self.table, self.clock);
+            if open.is_none_or(|place| place >= below) {
+                return;
+            }
+            let link = self.new_link();
+            self.arrive(link);
         }
     }
 
@@ -148,8 +187,12 @@ impl World {
 
     /// An arrival of an honest end's segment.
     fn honest(&mut self) -> Arrival {
-        let at = self.choose_link();
-        let mut link = self.links.swap_remove(at);
+        let link = self.choose_link();
+        self.arrive(link)
+    }
+
+    /// The next arrival of a link, which is kept unless it is over.
+    fn arrive(&mut self, mut link: Link) -> Arrival {
         let (sender, sending) = link.next_arrival(self.longest, &mut self.random);
         let draft = link.draft(sender, &sending);
         let arrival = Arrival {
@@ -183,15 +226,19 @@ impl World {
         arrival
     }
 
-    /// An old link, or a new one while there are few.
-    fn choose_link(&mut self) -> usize {
+    /// An old link, taken out, or a new one while there are few.
+    fn choose_link(&mut self) -> Link {
         let most = MOST_LINKS.min(table::places(&self.table));
         if self.links.is_empty() || self.links.len() < most && self.random.once_in(8) {
-            let names = self.new_names();
-            self.links.push(Link::new(names, &mut self.random));
-            return self.links.len() - 1;
+            return self.new_link();
         }
-        self.random.index(self.links.len())
+        let at = self.random.index(self.links.len());
+        self.links.swap_remove(at)
+    }
+
+    fn new_link(&mut self) -> Link {
+        let names = self.new_names();
+        Link::new(names, &mut self.random)
     }
 
     /// Names that no link has. They are few enough to come again, also while an
@@ -547,5 +594,44 @@ mod tests {
             }
             assert!(table::is_sound(world.table()));
         }
+    }
+
+    /// The same where they find other connections' entries.
+    #[test]
+    fn honest_ends_are_never_blocked_in_filled_tables() {
+        for (seed, places) in (1..40).zip([1, 2, 7, 64].into_iter().cycle()) {
+            let mut world = World::filled(seed, places, 1_900);
+            assert!(table::is_sound(world.table()));
+            for _ in 0..300 {
+                world.next_arrival();
+            }
+            assert!(table::is_sound(world.table()));
+        }
+    }
+
+    /// A filled table is live but for at most six places, the last ones; each
+    /// of these is free or expired, and the last live one can be a link's.
+    #[test]
+    fn filled_tables() {
+        let mut open = [0; 7];
+        let mut links = 0;
+        for seed in 0..200 {
+            let world = World::filled(seed, 20, 100);
+            let lowest = table::lowest_open_place(&world.table, world.clock).unwrap_or(20);
+            let live = |&place: &usize| {
+                let entry = table::entry(&world.table, place);
+                entry.connection.is_live(world.clock)
+            };
+            assert_eq!((0..20).filter(live).count(), lowest);
+            open[20 - lowest] += 1;
+            let last = Some(lowest as u32 - 1);
+            links += u32::from(world.links.iter().any(|link| link.place == last));
+        }
+        let expected = |(count, &worlds): (usize, &u32)| match count {
+            0 | 1 | 2 | 6 => worlds > 10,
+            _ => worlds == 0,
+        };
+        assert!(open.iter().enumerate().all(expected), "{open:?}");
+        assert!((50..190).contains(&links), "{links}");
     }
 }
