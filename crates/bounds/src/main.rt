@@ -141,11 +141,10 @@ fn open(line: &[u8], out: &mut Output, used: usize) -> Bench
 }
 
 // Holds what a pass leaves.
-fn pass(line: &[u8], out: &mut Output, used: usize, held: Connection) -> Bench
+fn pass(out: &mut Output, used: usize, after: Connection) -> Bench
     requires { ⌜ used ≤ 65536 ⌝ }
     ensures { λ r. ⌜ r .used ≤ 65536 ⌝ }
 {
-    let after = held.passed(sender(line), segment(line), clock(line, 7));
     let space = script::put_bytes(out, used, b"0 ");
     let end = put_connection(out, space, after);
     ended(out, end, after)
@@ -156,12 +155,14 @@ fn judge(line: &[u8], out: &mut Output, used: usize, held: Connection) -> Bench
     requires { ⌜ used ≤ 65536 ⌝ }
     ensures { λ r. ⌜ r .used ≤ 65536 ⌝ }
 {
-    let verdict = held.verdict(sender(line), segment(line));
+    let decided = held.decide(sender(line), segment(line), clock(line, 7));
+    let verdict = decided.verdict;
+    let after = decided.connection;
     match verdict {
-        Verdict::Pass => pass(line, out, used, held),
+        Verdict::Pass => pass(out, used, after),
         _ => {
             let end = script::put_decimal(out, used, verdict.number() as u64);
-            ended(out, end, held)
+            ended(out, end, after)
         }
     }
 }

@@ -13,6 +13,10 @@ pub true-or-false : (t : Bool) → (t ≡ true) ⊎ (t ≡ false)
 true-or-false true = inl refl
 true-or-false false = inr refl
 
+pub not-true-false : (t : Bool) → (t ≡ true → ⊥) → t ≡ false
+not-true-false true never = absurd (never refl)
+not-true-false false never = refl
+
 pub lt-or-ge : (a b : ℕ) → (a < b) ⊎ (b ≤ a)
 lt-or-ge a b = ⊎-elim (λ t. inl (ltb-true a b t)) (λ t. inr (ltb-false a b t)) (true-or-false (a <ᵇ b))
 
@@ -34,8 +38,8 @@ pub ||-false : (s t : Bool) → s || t ≡ false → (s ≡ false) × (t ≡ fal
 
 -- A number between two
 
-pub between : (low high b : ℕ) → low ≤ b → b ≤ high → (low ≤ᵇ b) && (b ≤ᵇ high) ≡ true
-between low high b p q = simp (le-leb low b, le-leb b high)
+pub true-between : (low high b : ℕ) → low ≤ b → b ≤ high → (low ≤ᵇ b) && (b ≤ᵇ high) ≡ true
+true-between low high b p q = simp (le-leb low b, le-leb b high)
 
 pub not-between-below : (low high b : ℕ) → b < low → (low ≤ᵇ b) && (b ≤ᵇ high) ≡ false
 not-between-below low high b p = simp (lt-leb low b)

@@ -1,10 +1,10 @@
--- The test for 1 or 2, of stages and of FIN bits, and numbers that are no stage.
+-- The test for 1 or 2, of stages and of FIN bits, a flag that is not set, and numbers that are no stage.
 use Prim.Native.Nat.{ℕ, _≤_, _<_}
 use mathlib.Core.Path.{_≡_, refl, _∙_}
-use mathlib.Core.Bool.{Bool, true, false, _&&_}
+use mathlib.Core.Bool.{Bool, true, false, _&&_, not}
 use native.Mathlib.Omega.{arith}
-use borrow.Author.Tests.{le-leb, lt-leb, leb-true}
-use Rattle.choice.specs.Choice.{_≤ᵇ_}
+use borrow.Author.Tests.{le-leb, lt-leb, leb-true, eq-eqb, ne-eqb, eqb-true, eqb-false}
+use Rattle.choice.specs.Choice.{_≤ᵇ_, _=ᵇ_}
 use Rattle.choice.proofs.Choice.{if-false, if-=-not}
 use Rattle.connection.specs.Stages.{lifeOf}
 
@@ -17,6 +17,14 @@ not-one-or-two x outside = go (1 ≤ᵇ x) refl
     go : (t : Bool) → (1 ≤ᵇ x) ≡ t → (t && (x ≤ᵇ 2)) ≡ false
     go true e = lt-leb x 2 (outside (leb-true 1 x e))
     go false e = refl
+
+-- a flag that is not set is 0
+pub clear-flag : (b : ℕ) → b < 2 → (b =ᵇ 0) ≡ not (b =ᵇ 1)
+clear-flag b bit = go (b =ᵇ 1) refl
+  where
+    go : (t : Bool) → (b =ᵇ 1) ≡ t → (b =ᵇ 0) ≡ not t
+    go true e = ne-eqb b 0 (λ (z : b ≡ 0). omega (arith, eqb-true b 1 e))
+    go false e = eq-eqb b 0 (omega (arith, eqb-false b 1 e))
 
 -- outside 1 to 5 there is no life
 pub lifeOf-outside : (stage : ℕ) → (1 ≤ stage → 5 < stage) → lifeOf stage ≡ 0

@@ -4,13 +4,14 @@ use mathlib.Core.Bool.{Bool, _&&_, _||_, not}
 use mathlib.Core.List.{[], _∷_}
 use lib.ListN.{set}
 use Rattle.choice.specs.Choice.{if_then_else_, _=ᵇ_, _≠ᵇ_}
-use Rattle.serial.specs.Serial.{sameSeq, seqBack, larger}
+use Rattle.serial.specs.Serial.{sameSeq, seqBack}
 use Rattle.segment.specs.Flags.{isReset, ack, SYN, SYN+ACK, ACK+RST}
 use Rattle.segment.specs.declared.Segment.{Segment}
-use Rattle.connection.specs.Ends.{count, zeros, unheard, sender, other, effectiveWindow, granted, opening, written}
+use Rattle.connection.specs.Ends.{count, zeros, unheard, sender, other, granted, opening, widened, written}
 use Rattle.connection.specs.Ranges.{sequenceMet, ackRange, ackMet}
 use Rattle.connection.specs.Stages.{lifeOf, finsAfter, stageAfter}
 use Rattle.connection.specs.declared.Connection.{Connection}
+use Rattle.connection.specs.declared.Decided.{Decided}
 use Rattle.connection.specs.declared.End.{End}
 use Rattle.connection.specs.declared.Verdict.{Verdict}
 use Rattle.connection.specs.declared.Verdict.the-variants.{Pass, NotAllowed, SequenceMissed, AckMissed}
@@ -68,14 +69,14 @@ free = record {
 unfoldable pub opened : ℕ → Segment → ℕ → Connection
 opened side g now = record { stage = 1; side = side; fins = 0; deadline = now + lifeOf 1; ends = opening g ∷ unheard ∷ [] }
 
--- the same SYN again makes win the larger of win and w and touches no other of the six numbers
+-- the same SYN again: of the six numbers only the opener's win may change
 unfoldable pub repeated : Connection → Segment → ℕ → Connection
 repeated c g now = record {
   stage = 1;
   side = c .side;
   fins = 0;
   deadline = now + lifeOf 1;
-  ends = set (c .ends) 0 (record { end = opener c .end; edge = opener c .edge; win = larger (opener c .win) (effectiveWindow g) });
+  ends = set (c .ends) 0 (widened (opener c) g);
 }
 
 -- SYN+ACK sets the answerer's end = edge = s + 1 and win = max(w, 1), raises the opener's edge, and gives stage 2
@@ -106,3 +107,16 @@ passed c i g now =
     else if c .stage ≠ᵇ 1 then carried c i g now
     else if i =ᵇ 0 then repeated c g now
     else answered c g now
+
+-- What a segment of a matched connection comes to
+
+-- the connection after a verdict: what a pass leaves, or else as it was
+abbrev pub afterVerdict : Verdict → Connection → Connection → Connection
+afterVerdict Pass left c = left
+afterVerdict NotAllowed left c = c
+afterVerdict SequenceMissed left c = c
+afterVerdict AckMissed left c = c
+
+-- the verdict, and the connection then
+unfoldable pub decided : Connection → ℕ → Segment → ℕ → Decided
+decided c i g now = record { verdict = verdictOn c i g; connection = afterVerdict (verdictOn c i g) (passed c i g now) c }

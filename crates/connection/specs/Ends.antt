@@ -52,6 +52,10 @@ sent F g = record {
   win = larger (F .win) (effectiveWindow g);
 }
 
+-- the same SYN again makes win the larger of win and w and touches no other number
+abbrev pub widened : End → Segment → End
+widened F g = record { end = F .end; edge = F .edge; win = larger (F .win) (effectiveWindow g) }
+
 -- T.edge becomes the further of T.edge and a + max(w, 1)
 unfoldable pub granted : End → Segment → End
 granted T g = record { end = T .end; edge = further (T .end) (T .edge) (rightEdge g); win = T .win }

@@ -1,10 +1,10 @@
 // One connection by value: the decision on a segment of it, and what a pass leaves (document 01, "Ranges" and "Stages").
 ghost use mathlib.Core.Path.{_≡_};
 ghost use Prim.Native.Nat.{_^_, _<_, _≤_};
-ghost use Rattle.connection.specs.Ends.{sent, granted, opening, written};
+ghost use Rattle.connection.specs.Ends.{effectiveWindow, sent, granted, opening, widened, written};
 ghost use Rattle.connection.specs.Ranges.{sequenceMet, ackRange, ackMet};
 ghost use Rattle.connection.specs.Stages.{longestLife, lifeOf, withFin, finsAfter, openStage, stageAfter};
-ghost use Rattle.connection.specs.Decision.{sameSyn, reply, verdictUnanswered, verdictByRanges, verdictOn, verdictNumber, answerOn, free, opened, repeated, answered, carried, passed};
+ghost use Rattle.connection.specs.Decision.{sameSyn, reply, verdictUnanswered, verdictByRanges, verdictOn, verdictNumber, answerOn, free, opened, repeated, answered, carried, passed, decided};
 use segment::Segment;
 use serial::OctetCount;
 use serial::SeqNum;
@@ -55,6 +55,13 @@ impl Verdict {
     }
 }
 
+// What a segment of a matched connection comes to.
+pub struct Decided {
+    pub verdict: Verdict,
+    // What a pass leaves, or else the connection as it was.
+    pub connection: Connection,
+}
+
 // The life of a stage in ms.
 pub fn life(stage: u8) -> u64
     ensures { λ r. ⌜ (r ≡ lifeOf stage) × (r ≤ longestLife) ⌝ }
@@ -68,6 +75,13 @@ pub fn life(stage: u8) -> u64
     }
 }
 
+// Document 01's w, as it counts: unscaled today.
+fn effective_window(segment: Segment) -> OctetCount
+    ensures { λ r. ⌜ r ≡ effectiveWindow segment ⌝ }
+{
+    segment.window
+}
+
 impl End {
     // The sender's record after a segment of its own.
     pub fn sent(self, segment: Segment) -> End
@@ -78,7 +92,7 @@ impl End {
         let win = self.win;
         let seq = segment.seq;
         let octets = segment.octets;
-        let window = segment.window;
+        let window = effective_window(segment);
         let far = end.further(end, seq.plus(octets));
         let largest = win.larger(window);
         End {
@@ -96,7 +110,7 @@ impl End {
         let edge = self.edge;
         let win = self.win;
         let ack = segment.ack;
-        let window = segment.window;
+        let window = effective_window(segment);
         let far = end.further(edge, ack.plus(window.larger(OctetCount(1))));
         End {
             end: end,
@@ -110,13 +124,29 @@ impl End {
         ensures { λ r. ⌜ r ≡ opening segment ⌝ }
     {
         let seq = segment.seq;
-        let window = segment.window;
+        let window = effective_window(segment);
         let end = seq.plus(OctetCount(1));
         let win = window.larger(OctetCount(1));
         End {
             end: end,
             edge: end,
             win: win,
+        }
+    }
+
+    // The opener's record after the same SYN again.
+    pub fn widened(self, segment: Segment) -> End
+        ensures { λ r. ⌜ r ≡ widened self segment ⌝ }
+    {
+        let end = self.end;
+        let edge = self.edge;
+        let win = self.win;
+        let window = effective_window(segment);
+        let most = win.larger(window);
+        End {
+            end: end,
+            edge: edge,
+            win: most,
         }
     }
 }
@@ -160,19 +190,19 @@ fn with_fin(fins: u8, sender: usize) -> u8
     fins + 2
 }
 
-// The FIN bits after a segment with these flags.
-fn fins_after(fins: u8, sender: usize, flags: u8) -> u8
-    ensures { λ r. ⌜ r ≡ finsAfter fins sender flags ⌝ }
+// The FIN bits after a segment.
+fn fins_after(fins: u8, sender: usize, segment: Segment) -> u8
+    ensures { λ r. ⌜ r ≡ finsAfter fins sender (segment .flags) ⌝ }
 {
-    if flags % 2 == 1 {
+    if segment.has_fin() {
         return with_fin(fins, sender);
     }
     fins
 }
 
 // The stage after a segment where no FIN bit is set.
-fn open_stage(stage: u8, sender: usize, flags: u8) -> u8
-    ensures { λ r. ⌜ r ≡ openStage stage sender flags ⌝ }
+fn open_stage(stage: u8, sender: usize, segment: Segment) -> u8
+    ensures { λ r. ⌜ r ≡ openStage stage sender (segment .flags) ⌝ }
 {
     match stage {
         3 => 3,
@@ -180,10 +210,10 @@ fn open_stage(stage: u8, sender: usize, flags: u8) -> u8
             if sender != 0 {
                 return 2;
             }
-            if flags / 16 % 2 != 1 {
+            if !segment.has_ack() {
                 return 2;
             }
-            if flags / 2 % 2 != 0 {
+            if segment.has_syn() {
                 return 2;
             }
             3
@@ -192,13 +222,13 @@ fn open_stage(stage: u8, sender: usize, flags: u8) -> u8
 }
 
 // The stage after a segment, by the FIN bits after it.
-fn stage_after(stage: u8, fins: u8, sender: usize, flags: u8) -> u8
-    ensures { λ r. ⌜ r ≡ stageAfter stage fins sender flags ⌝ }
+fn stage_after(stage: u8, fins: u8, sender: usize, segment: Segment) -> u8
+    ensures { λ r. ⌜ r ≡ stageAfter stage fins sender (segment .flags) ⌝ }
 {
     match fins {
         3 => 5,
         1..=2 => 4,
-        _ => open_stage(stage, sender, flags),
+        _ => open_stage(stage, sender, segment),
     }
 }
 
@@ -250,14 +280,14 @@ impl Connection {
         let end = opener.end;
         let seq = segment.seq;
         let flags = segment.flags;
+        let before = end.back(OctetCount(1));
         if sender != 0 {
             return false;
         }
-        if flags != 2 {
-            return false;
+        match flags {
+            2 => seq.is(before),
+            _ => false,
         }
-        let before = end.back(OctetCount(1));
-        seq.is(before)
     }
 
     // Whether a segment is the answerer's reply to the SYN: SYN+ACK or ACK+RST.
@@ -301,11 +331,10 @@ impl Connection {
     {
         let from = self.ends[sender];
         let to = self.ends[1 - sender];
-        let flags = segment.flags;
         if !sequence_met(from, to, segment) {
             return Verdict::SequenceMissed;
         }
-        if flags / 16 % 2 != 1 {
+        if !segment.has_ack() {
             return Verdict::Pass;
         }
         if !ack_met(to, segment) {
@@ -314,8 +343,8 @@ impl Connection {
         Verdict::Pass
     }
 
-    // Rows 13 to 15 and 0 for a segment of the sender: 0 the opener, 1 the answerer.
-    pub fn verdict(self, sender: usize, segment: Segment) -> Verdict
+    // Rows 13 to 15 and 0.
+    fn verdict(self, sender: usize, segment: Segment) -> Verdict
         requires { ⌜ sender < 2 ⌝ }
         ensures { λ r. ⌜ (r ≡ verdictOn self sender segment) × (verdictNumber r ≡ answerOn self sender segment) ⌝ }
     {
@@ -332,18 +361,9 @@ impl Connection {
         ensures { λ r. ⌜ r ≡ repeated self segment clock ⌝ }
     {
         let side = self.side;
-        let window = segment.window;
         let opener = self.ends[0];
-        let win = opener.win;
-        let most = win.larger(window);
-        let end = opener.end;
-        let edge = opener.edge;
         let mut ends = self.ends;
-        ends[0] = End {
-            end: end,
-            edge: edge,
-            win: most,
-        };
+        ends[0] = opener.widened(segment);
         let deadline = clock + life(1);
         Connection {
             stage: 1,
@@ -378,12 +398,12 @@ impl Connection {
         requires { ⌜ sender < 2 ⌝ }
         ensures { λ r. ⌜ r ≡ written (self .ends) sender segment ⌝ }
     {
-        let acks = segment.flags / 16 % 2;
+        let acks = segment.has_ack();
         let from = self.ends[sender];
         let to = self.ends[1 - sender];
         let mut ends = self.ends;
         ends[sender] = from.sent(segment);
-        if acks != 1 {
+        if !acks {
             return ends;
         }
         ends[1 - sender] = to.granted(segment);
@@ -396,9 +416,8 @@ impl Connection {
         ensures { λ r. ⌜ r ≡ carried self sender segment clock ⌝ }
     {
         let side = self.side;
-        let flags = segment.flags;
-        let fins = fins_after(self.fins, sender, flags);
-        let stage = stage_after(self.stage, fins, sender, flags);
+        let fins = fins_after(self.fins, sender, segment);
+        let stage = stage_after(self.stage, fins, sender, segment);
         let deadline = clock + life(stage);
         let ends = self.written(sender, segment);
         Connection {
@@ -411,13 +430,12 @@ impl Connection {
     }
 
     // The connection that a pass at this clock used leaves; a reset frees it.
-    pub fn passed(self, sender: usize, segment: Segment, clock: u64) -> Connection
+    fn passed(self, sender: usize, segment: Segment, clock: u64) -> Connection
         requires { ⌜ (sender < 2) × (clock < 2 ^ 48) ⌝ }
         ensures { λ r. ⌜ r ≡ passed self sender segment clock ⌝ }
     {
-        let flags = segment.flags;
         let stage = self.stage;
-        if flags / 4 % 2 == 1 {
+        if segment.has_rst() {
             return no_connection();
         }
         match stage {
@@ -426,6 +444,27 @@ impl Connection {
                 _ => self.answered(segment, clock),
             },
             _ => self.carried(sender, segment, clock),
+        }
+    }
+
+    // Rows 13 to 15 and 0 for a segment of the sender, 0 the opener or 1 the answerer, and the connection then.
+    pub fn decide(self, sender: usize, segment: Segment, clock: u64) -> Decided
+        requires { ⌜ (sender < 2) × (clock < 2 ^ 48) ⌝ }
+        ensures { λ r. ⌜ (r ≡ decided self sender segment clock) × (verdictNumber (r .verdict) ≡ answerOn self sender segment) ⌝ }
+    {
+        let verdict = self.verdict(sender, segment);
+        match verdict {
+            Verdict::Pass => {
+                let after = self.passed(sender, segment, clock);
+                Decided {
+                    verdict: verdict,
+                    connection: after,
+                }
+            }
+            _ => Decided {
+                verdict: verdict,
+                connection: self,
+            },
         }
     }
 }

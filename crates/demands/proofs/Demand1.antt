@@ -7,13 +7,13 @@ use Rattle.entry.specs.declared.Entry.{Entry}
 use Rattle.filter.specs.Call.{placesIn, outcomeOf}
 use Rattle.filter.specs.Outcome.{Outcome, Blocked, Passed}
 use Rattle.filter.proofs.Fits.{Within, outcome-within}
-use Rattle.demands.specs.Demands.{Given, Demand1OnBytes}
+use Rattle.demands.specs.Demands.{Demand1For, Demand1OnBytes}
 use Rattle.demands.proofs.Frame.{length-after, byte-elsewhere}
 
 place-inside : (t : List ℕ) (p now : ℕ) (e : Entry) → Within t (Passed p now e) → p < placesIn t
 place-inside t p now e within = omega (arith, within .1)
 
-given : (t : List ℕ) (o : Outcome) → Within t o → Given t o
+given : (t : List ℕ) (o : Outcome) → Within t o → Demand1For t o
 given t (Blocked n) within = record {
   passed-place = λ z. absurd (omega (arith, within .0, z));
   passed-length = λ z. absurd (omega (arith, within .0, z));

@@ -7,7 +7,7 @@ use lib.ListN.{length, getD}
 use Rattle.entry.specs.Layout.{placeAt, entryAt}
 use Rattle.filter.specs.Call.{placesIn}
 use Rattle.honest.specs.Rows as rows
-use Rattle.honest.specs.Filter.{connections}
+use Rattle.honest.specs.Connections.{connections}
 use Rattle.honest.specs.IPv4.{IPv4}
 use Rattle.demands.specs.Bytes.{viewEntry, entriesFrom, viewOf}
 

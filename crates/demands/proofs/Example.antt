@@ -16,7 +16,7 @@ use Rattle.connection.specs.Sound.{soundFins, soundEnd, soundUnanswered, soundC
 use Rattle.connection.specs.Stages.{lifeOf, withFin, finsAfter, openStage, stageAfter}
 use Rattle.connection.specs.Ranges.{sequenceMet, ackMet}
 use Rattle.serial.specs.Serial.{further}
-use Rattle.serial.specs.Ring.{wrap, ringPlus, ringMinus, standing}
+use Rattle.serial.specs.Ring.{wrap, ringPlus, ringMinus, nearest}
 use Rattle.choice.specs.Choice.{if_then_else_}
 use Rattle.honest.specs.Marked as marked
 use Rattle.demands.specs.Demands.{freshBytes}
@@ -39,7 +39,7 @@ after2 = tableAfter after1 (outcomeOf 1 100 after1 packet2)
 
 -- the SYN opens place 0, the SYN+ACK passes there, and the ACK of what was never sent is blocked
 pub example : (replyOf (outcomeOf 0 0 (freshBytes 2) packet1) ≡ record { answer = 0; place = 0 }) × (replyOf (outcomeOf 1 100 after1 packet2) ≡ record { answer = 0; place = 0 }) × (replyOf (outcomeOf 0 200 after2 packet3) ≡ record { answer = 15; place = 65535 })
-unfolding readPacket onesPlus onesSum tabulate number digits overwrite bigEndian octetsOf endBytes marksBytes endpointsBytes numbersBytes entryBytes connectionAt entryAt zerosAt allFrom firstFrom headerClock soundHeader freeAt soundAt soundTable between fromOpener fromAnswerer liveMatchAt vacantAt legalLength entryAfter openingEntry senderOf onEntry unmatched onSegment outcomeOf sameSyn reply verdictUnanswered verdictByRanges verdictOn opened repeated answered carried passed sent granted written soundFins soundEnd soundUnanswered soundConnection lifeOf withFin finsAfter openStage stageAfter sequenceMet ackMet further wrap ringPlus ringMinus standing if_then_else_
+unfolding readPacket onesPlus onesSum tabulate number digits overwrite bigEndian octetsOf endBytes marksBytes endpointsBytes numbersBytes entryBytes connectionAt entryAt zerosAt allFrom firstFrom headerClock soundHeader freeAt soundAt soundTable between fromOpener fromAnswerer liveMatchAt vacantAt legalLength entryAfter openingEntry senderOf onEntry unmatched onSegment outcomeOf sameSyn reply verdictUnanswered verdictByRanges verdictOn opened repeated answered carried passed sent granted written soundFins soundEnd soundUnanswered soundConnection lifeOf withFin finsAfter openStage stageAfter sequenceMet ackMet further wrap ringPlus ringMinus nearest if_then_else_
 example = (refl, refl, refl)
 
 -- these are the bytes that the marked set's calls make, checksums and all

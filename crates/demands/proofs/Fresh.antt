@@ -18,7 +18,7 @@ use Rattle.table.proofs.Zeros.{Zeros}
 use Rattle.table.proofs.Facts.{SoundFacts, facts-table}
 use Rattle.filter.specs.Call.{legalLength, placesIn}
 use Rattle.filter.proofs.Free.{zeros-free}
-use Rattle.honest.specs.Filter.{connections}
+use Rattle.honest.specs.Connections.{connections}
 use Rattle.honest.specs.Demand2.{fresh}
 use Rattle.honest.specs.IPv4.{IPv4}
 use Rattle.demands.specs.Bytes.{SoundBytes, viewEntry, viewOf}

@@ -15,7 +15,7 @@ use Rattle.filter.specs.Outcome.{Outcome}
 use Rattle.filter.proofs.Free.{typed-free}
 use Rattle.filter.proofs.Rows.{sound-table-clock}
 use Rattle.honest.specs.Rows as rows
-use Rattle.honest.specs.Filter.{connections, SoundTable}
+use Rattle.honest.specs.Connections.{connections, SoundTable}
 use Rattle.honest.specs.Typed as connection
 use Rattle.honest.specs.Machine.{Reading, refused, asks, apart, KeepsTo}
 use Rattle.honest.specs.IPv4.{IPv4}

@@ -21,7 +21,7 @@ use Rattle.table.specs.Table.{headerClock}
 use Rattle.filter.specs.Call.{placesIn, withEntry}
 use Rattle.filter.proofs.Rows.{legal-length-bounds}
 use Rattle.honest.specs.Rows.{Ask, Entry, Table, Reply, filter}
-use Rattle.honest.specs.Filter.{connections}
+use Rattle.honest.specs.Connections.{connections}
 use Rattle.honest.specs.Machine.{asks}
 use Rattle.honest.specs.IPv4.{IPv4}
 use Rattle.honest.specs.Marked.{after, empty, packet1, packet2, opened, stateK, entry11, state11, Name, example, C, Case, markedSet, isLeft, holds, allHold}

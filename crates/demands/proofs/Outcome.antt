@@ -23,7 +23,7 @@ use Rattle.table.proofs.Places.{found-passes}
 use Rattle.filter.specs.Call.{placesIn, clockUsed, sourceOf, destinationOf, freeEntry, entryAfter, openingEntry, byVerdict, senderOf, onEntry, onVacant, unmatched, onFound, onSegment, onPacket, outcomeOf, replyOf, tableAfter}
 use Rattle.filter.specs.Outcome.{Outcome, Blocked, Passed}
 use Rattle.honest.specs.Rows as rows
-use Rattle.honest.specs.Filter.{connections}
+use Rattle.honest.specs.Connections.{connections}
 use Rattle.honest.specs.Machine.{asks}
 use Rattle.honest.specs.IPv4.{Addresses, IPv4}
 use Rattle.demands.specs.Bytes.{BytesCall, SoundBytes, viewEntry, viewOf, addressesOf, readingOf}

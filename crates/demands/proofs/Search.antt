@@ -18,7 +18,7 @@ use Rattle.table.specs.declared.Found.{Found}
 use Rattle.table.specs.declared.Found.the-variants.{At, Nothing}
 use Rattle.filter.specs.Call.{placesIn, clockUsed, sourceOf, destinationOf, senderOf}
 use Rattle.honest.specs.Rows as rows
-use Rattle.honest.specs.Filter.{connections}
+use Rattle.honest.specs.Connections.{connections}
 use Rattle.honest.specs.IPv4.{Addresses, sameAddresses, swapped, IPv4}
 use Rattle.demands.specs.Bytes.{viewEntry, entriesFrom, viewOf, addressesOf}
 

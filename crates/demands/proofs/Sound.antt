@@ -13,7 +13,7 @@ use Rattle.entry.proofs.Octets.{typed-entryAt}
 use Rattle.table.proofs.Facts.{table-facts}
 use Rattle.filter.specs.Call.{placesIn}
 use Rattle.filter.proofs.Free.{zeros-free}
-use Rattle.honest.specs.Filter.{SoundTable}
+use Rattle.honest.specs.Connections.{SoundTable}
 use Rattle.honest.specs.Typed as honest
 use Rattle.honest.specs.IPv4.{IPv4}
 use Rattle.demands.specs.Bytes.{SoundBytes, viewEntry, viewOf}

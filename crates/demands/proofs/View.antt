@@ -16,7 +16,7 @@ use Rattle.entry.specs.declared.Entry.{Entry}
 use Rattle.filter.specs.Call.{placesIn, tableAfter}
 use Rattle.filter.specs.Outcome.{Passed}
 use Rattle.honest.specs.Rows as rows
-use Rattle.honest.specs.Filter.{connections}
+use Rattle.honest.specs.Connections.{connections}
 use Rattle.honest.specs.IPv4.{IPv4}
 use Rattle.demands.specs.Bytes.{viewEntry, viewOf}
 use Rattle.demands.proofs.Entries.{places-viewOf, getD-viewOf}

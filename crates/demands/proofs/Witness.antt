@@ -10,16 +10,16 @@ use Rattle.octets.specs.BigEndian.{bigEndian, octetsOf}
 use Rattle.octets.specs.Overwrite.{overwrite}
 use Rattle.packet.specs.Sum.{onesPlus, onesSum}
 use Rattle.packet.specs.Read.{readPacket}
-use Rattle.honest.specs.Filter.{connections}
+use Rattle.honest.specs.Connections.{connections}
 use Rattle.honest.specs.Machine.{refused}
 use Rattle.honest.specs.Rules.{Event, Pair}
 use Rattle.honest.specs.Honest.{Legal, NeverBlocked}
 use Rattle.honest.specs.Demand2.{fresh}
 use Rattle.honest.specs.IPv4.{IPv4}
 use Rattle.honest.specs.Instance.{ListCall, listMachine}
-use Rattle.honest.specs.Carries.{Carries, readings, shownBy}
+use Rattle.honest.specs.Carries.{Carries, readings, summaryOf}
 use Rattle.honest.specs.Witness.{ends, witness}
-use Rattle.honest.proofs.Transfer.{made-carries, refused-carries, legal-carried, shown-carried}
+use Rattle.honest.proofs.Transfer.{made-carries, refused-carries, legal-carried, summary-carried}
 use Rattle.honest.proofs.Witness.{witness-legal, witness-shows}
 use Rattle.demands.specs.Bytes.{BytesCall, SoundBytes, readingOf, bytesMachine}
 use Rattle.demands.specs.Demands.{freshBytes}
@@ -38,8 +38,8 @@ module _ (n : ℕ) (some : 1 ≤ n) (most : n ≤ 512) {L : List (Event BytesCal
   legal-on-bytes : (P : Pair IPv4) → Legal (listMachine IPv4) (fresh IPv4 connections n) P N → Legal bytesMachine (freshBytes n) P L
   legal-on-bytes P legal = legal-carried bytesMachine SoundBytes bytes-keep (freshBytes n) sound P L N carries (rw (fresh-bytes-view n) legal)
 
-  shown-on-bytes : shownBy bytesMachine (freshBytes n) L ≡ shownBy (listMachine IPv4) (fresh IPv4 connections n) N
-  shown-on-bytes = shown-carried bytesMachine SoundBytes bytes-keep (freshBytes n) sound L N carries ∙ ap (λ t. shownBy (listMachine IPv4) t N) (fresh-bytes-view n)
+  summary-on-bytes : summaryOf bytesMachine (freshBytes n) L ≡ summaryOf (listMachine IPv4) (fresh IPv4 connections n) N
+  summary-on-bytes = summary-carried bytesMachine SoundBytes bytes-keep (freshBytes n) sound L N carries ∙ ap (λ t. summaryOf (listMachine IPv4) t N) (fresh-bytes-view n)
 
 -- The witness
 
@@ -63,5 +63,5 @@ pub bytes-witness-passes : NeverBlocked bytesMachine (freshBytes 64) bytesWitnes
 bytes-witness-passes = demand3-on-bytes 64 (omega arith) (omega arith) ends (omega arith) bytesWitness bytes-witness-legal
 
 -- of the calls that ask something and are no arrivals, the two openings pass and the two others are blocked; every FIN has passed
-pub bytes-witness-shows : shownBy bytesMachine (freshBytes 64) bytesWitness ≡ record { others = 0 ∷ 11 ∷ 14 ∷ 0 ∷ []; place = 1; stage = 5 }
-bytes-witness-shows = shown-on-bytes 64 (omega arith) (omega arith) witness-carried ∙ witness-shows
+pub bytes-witness-shows : summaryOf bytesMachine (freshBytes 64) bytesWitness ≡ record { others = 0 ∷ 11 ∷ 14 ∷ 0 ∷ []; place = 1; stage = 5 }
+bytes-witness-shows = summary-on-bytes 64 (omega arith) (omega arith) witness-carried ∙ witness-shows

@@ -15,7 +15,7 @@ use Rattle.entry.specs.declared.Entry.{Entry}
 use Rattle.table.specs.Table.{headerClock, soundTable}
 use Rattle.filter.specs.Call.{legalLength, placesIn, nowhere, outcomeOf, replyOf, tableAfter}
 use Rattle.honest.specs.Rows as rows
-use Rattle.honest.specs.Filter.{connections}
+use Rattle.honest.specs.Connections.{connections}
 use Rattle.honest.specs.Machine.{Reading, refused, asks, Machine}
 use Rattle.honest.specs.IPv4.{Addresses, IPv4}
 

@@ -19,7 +19,7 @@ use Rattle.demands.specs.Bytes.{BytesCall, SoundBytes, bytesMachine}
 abbrev pub Elsewhere : ℕ → ℕ → Type 0
 Elsewhere p i = (8 ≤ i) × ((i < placeAt p) ⊎ (placeAt p + entrySize ≤ i))
 
-pub record Given (t : List ℕ) (o : Outcome) : Type 0 where
+pub record Demand1For (t : List ℕ) (o : Outcome) : Type 0 where
   -- a pass gives one of the table's places, 0 to n−1, and changes only the header clock and that entry
   pub passed-place : replyOf o .answer ≡ 0 → replyOf o .place < placesIn t
   pub passed-length : replyOf o .answer ≡ 0 → length (tableAfter t o) ≡ length t
@@ -31,7 +31,7 @@ pub record Given (t : List ℕ) (o : Outcome) : Type 0 where
 
 -- nothing is asked of side, clock, table and packet
 abbrev pub Demand1OnBytes : Type 0
-Demand1OnBytes = (side clock : ℕ) (t packet : List ℕ) → Given t (outcomeOf side clock t packet)
+Demand1OnBytes = (side clock : ℕ) (t packet : List ℕ) → Demand1For t (outcomeOf side clock t packet)
 
 -- Demands 2 and 3, from an all-zero table of any legal size
 

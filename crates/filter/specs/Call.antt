@@ -14,6 +14,7 @@ use Rattle.packet.specs.declared.Flow.{Flow}
 use Rattle.packet.specs.declared.PacketRead.{PacketRead}
 use Rattle.packet.specs.declared.PacketRead.the-variants.{Refused, Tcp}
 use Rattle.connection.specs.Decision.{verdictOn, verdictNumber, free, opened, passed}
+use Rattle.connection.specs.declared.Connection.{Connection}
 use Rattle.connection.specs.declared.Verdict.{Verdict}
 use Rattle.connection.specs.declared.Verdict.the-variants.{Pass, NotAllowed, SequenceMissed, AckMissed}
 use Rattle.entry.specs.Layout.{entrySize, placeAt, entryAt, entryBytes}
@@ -52,11 +53,15 @@ destinationOf f = record { address = f .destination; port = f .dport }
 abbrev pub freeEntry : Entry
 freeEntry = record { opener = record { address = 0; port = 0 }; answerer = record { address = 0; port = 0 }; connection = free }
 
--- what a pass leaves of an entry; a reset frees it
-unfoldable pub entryAfter : Entry → ℕ → Segment → ℕ → Entry
-entryAfter e i g now =
+-- an entry after a passed segment, by its connection after it; a reset frees it
+abbrev pub entryWith : Entry → Segment → Connection → Entry
+entryWith e g after =
     if isReset (g .flags) then freeEntry
-    else record { opener = e .opener; answerer = e .answerer; connection = passed (e .connection) i g now }
+    else record { opener = e .opener; answerer = e .answerer; connection = after }
+
+-- what a pass leaves of an entry
+unfoldable pub entryAfter : Entry → ℕ → Segment → ℕ → Entry
+entryAfter e i g now = entryWith e g (passed (e .connection) i g now)
 
 -- 13 to 15, or the pass
 abbrev pub byVerdict : Verdict → Outcome → Outcome

@@ -4,7 +4,7 @@ ghost use Prim.Native.Nat.{_^_, _≤_, _<_};
 ghost use lib.ListN.{length};
 ghost use Rattle.entry.specs.Layout.{placeAt};
 ghost use Rattle.packet.specs.Read.{readPacket};
-ghost use Rattle.filter.specs.Call.{legalLength, placesIn, clockUsed, sourceOf, destinationOf, freeEntry, entryAfter, senderOf, onEntry, openingEntry, unmatched, onSegment, onPacket, outcomeOf, replyOf, tableAfter};
+ghost use Rattle.filter.specs.Call.{legalLength, placesIn, clockUsed, sourceOf, destinationOf, freeEntry, entryWith, senderOf, onEntry, openingEntry, unmatched, onSegment, onPacket, outcomeOf, replyOf, tableAfter};
 ghost use Rattle.filter.specs.Decided.{decided, written, Fits};
 ghost use Rattle.filter.specs.Outcome.{Blocked, Passed};
 use connection::Connection;
@@ -122,18 +122,15 @@ fn sender(entry: Entry, side: u8, flow: Flow) -> usize
     1
 }
 
-// The entry that a pass leaves; a reset frees it.
-fn entry_after(entry: Entry, sender: usize, segment: Segment, clock: u64) -> Entry
-    requires { ⌜ (sender < 2) × (clock < 2 ^ 48) ⌝ }
-    ensures { λ r. ⌜ r ≡ entryAfter entry sender segment clock ⌝ }
+// The entry after a passed segment, by its connection after it; a reset frees it.
+fn entry_after(entry: Entry, segment: Segment, after: Connection) -> Entry
+    ensures { λ r. ⌜ r ≡ entryWith entry segment after ⌝ }
 {
     let opener = entry.opener;
     let answerer = entry.answerer;
-    let connection = entry.connection;
-    if segment.flags / 4 % 2 == 1 {
+    if segment.has_rst() {
         return free_entry();
     }
-    let after = connection.passed(sender, segment, clock);
     Entry {
         opener: opener,
         answerer: answerer,
@@ -155,9 +152,11 @@ fn on_entry(
 {
     let from = sender(entry, side, flow);
     let connection = entry.connection;
-    let verdict = connection.verdict(from, segment);
+    let decided = connection.decide(from, segment, clock);
+    let verdict = decided.verdict;
+    let after = decided.connection;
     match verdict {
-        Verdict::Pass => passed(place, clock, entry_after(entry, from, segment, clock)),
+        Verdict::Pass => passed(place, clock, entry_after(entry, segment, after)),
         Verdict::NotAllowed => blocked(13),
         Verdict::SequenceMissed => blocked(14),
         Verdict::AckMissed => blocked(15),
@@ -194,13 +193,16 @@ fn unmatched(
     if side != 0 {
         return blocked(11);
     }
-    if segment.flags != 2 {
-        return blocked(11);
-    }
-    let found = vacant(table, places, clock);
-    match found {
-        Found::At(place) => passed(place, clock, opening(clock, side, flow, segment)),
-        Found::Nothing => blocked(12),
+    let flags = segment.flags;
+    match flags {
+        2 => {
+            let found = vacant(table, places, clock);
+            match found {
+                Found::At(place) => passed(place, clock, opening(clock, side, flow, segment)),
+                Found::Nothing => blocked(12),
+            }
+        }
+        _ => blocked(11),
     }
 }
 

@@ -20,7 +20,7 @@ use Rattle.connection.specs.declared.Verdict.{Verdict}
 use Rattle.connection.specs.declared.Verdict.the-variants.{Pass, NotAllowed, SequenceMissed, AckMissed}
 use Rattle.history.specs.Numbers.{Numbers}
 use Rattle.history.specs.History.{LineSegment, numbersOf, onWire, standsBy, placedBy, placed, judge, Holds, Formed, Placeable}
-use Rattle.history.specs.Demand2.{Presented, Legal, AllLegal, onLine, answerTo, judgedOver, leftBy, passes, connectionAfter, historyAfter, NoReset, openingHistory, Agree, Demand2}
+use Rattle.history.specs.Demand2.{Presented, Legal, AllLegal, onLine, answerTo, judgedOver, leftBy, passes, connectionAfter, historyAfter, NoReset, openingHistory, Agree, Demand2OfConnection}
 use Rattle.history.proofs.Step.{Near}
 use Rattle.history.proofs.Verdict.{Unanswered, Answered, judged-answered, judged-unanswered}
 use Rattle.history.proofs.Pass.{opener-begins, opened-unanswered, opened-holds, answerer-begins, carried-holds, carried-answered, repeated-holds, repeated-unanswered, answered-holds, answered-answered}
@@ -181,7 +181,7 @@ module _ (side : ℕ) (g : Segment) (now : ℕ) (r : Placeable g) (a-syn : g .fl
       let end = ap (λ (x : Numbers). x .end) (opener-begins (placed [] 0 g) refl a-syn formed-first) in
       unanswered (opened-unanswered (placed [] 0 g) refl a-syn formed-first) (omega (arith, up, end))
 
-pub demand2 : Demand2
-demand2 side g now r a-syn l legal no-reset o next =
+pub demand2-of-connection : Demand2OfConnection
+demand2-of-connection side g now r a-syn l legal no-reset o next =
     let k = after-all (opened side g now) (openingHistory g) (holds-first side g now r a-syn) (reached-first side g now r a-syn) l legal no-reset in
     agree (connectionAfter (opened side g now) l) (historyAfter (openingHistory g) l) (k .0) (k .1) o next

@@ -8,7 +8,7 @@ use native.Mathlib.Omega.{arith}
 use borrow.Author.Tests.{leb-true, eq-eqb}
 use Rattle.choice.specs.Choice.{if_then_else_, _≤ᵇ_, _=ᵇ_}
 use Rattle.choice.proofs.Choice.{if-=-not}
-use Rattle.choice.proofs.Tests.{false-true, &&-true}
+use Rattle.choice.proofs.Tests.{not-true-false, false-true, &&-true}
 use Rattle.serial.specs.Ring.{wrap, largestRange}
 use Rattle.serial.proofs.Ring.{nearest-wrap}
 use Rattle.segment.specs.Flags.{ack}
@@ -47,10 +47,6 @@ module _ (h : List LineSegment) (both-heard : Answered h) (i : ℕ) (side : i < 
 
 -- What the three answers say of the tests x (I and II), a (ACK), y (III and IV)
 
-not-true : (t : Bool) → (t ≡ true → ⊥) → t ≡ false
-not-true true none = absurd (none refl)
-not-true false none = refl
-
 missed-14 : (x a y : Bool) → ((if not x then SequenceMissed else if a && not y then AckMissed else Pass) ≡ SequenceMissed) ↔ (x ≡ false)
 unfolding if_then_else_
 missed-14 true true true = ((λ e. false-true cc), (λ e. false-true (sym e)))
@@ -67,7 +63,7 @@ missed-15 false = ((λ e. refl), (λ e. refl))
 nowhere : (P : ℕ → Bool) (s X : ℕ) → wrap X ≡ s → ((S : ℕ) → wrap S ≡ s → P S ≡ true → S ≡ X) → (P X ≡ false) ↔ ((S : ℕ) → wrap S ≡ s → P S ≡ true → ⊥)
 nowhere P s X here only = (
   (λ (miss : P X ≡ false) (S : ℕ) (at-s : wrap S ≡ s) (met : P S ≡ true). false-true (sym miss ∙ ap P (sym (only S at-s met)) ∙ met)),
-  (λ none. not-true (P X) (none X here)),
+  (λ none. not-true-false (P X) (none X here)),
 )
 
 module _ (c : Connection) (h : List LineSegment) (holds : Holds c h) (both-heard : Answered h) (turned : (k : ℕ) → k < 2 → 2 ^ 32 ≤ numbersOf k h .end) (i : ℕ) (side : i < 2) (g : Segment) (r : Placeable g) where

@@ -79,8 +79,8 @@ pub record Agree (c : Connection) (h : List LineSegment) (o : Presented) : Type 
   pub freed : answerTo c o ≡ Pass → rst (o .segment .flags) ≡ 1 → leftBy c o ≡ free
 
 -- from an opening SYN g on, after every list of legal presentations of which no reset passed, and at every next legal one
-abbrev pub Demand2 : Type 0
-Demand2 =
+abbrev pub Demand2OfConnection : Type 0
+Demand2OfConnection =
     (side : ℕ) (g : Segment) (now : ℕ) → Placeable g → g .flags ≡ SYN →
     (l : List Presented) → AllLegal l → NoReset (openingHistory g) l →
     (o : Presented) → Legal o →

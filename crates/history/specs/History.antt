@@ -33,7 +33,7 @@ onWire g = record { seq = seqAt (g .start); ack = seqAt (g .acked); window = cou
 
 -- the end of i's segment
 abbrev pub endBy : ℕ → LineSegment → ℕ
-endBy i g = if (g .from =ᵇ i) && (rst (g .flags) ≠ᵇ 1) then g .start + g .length else 0
+endBy i g = if (g .from =ᵇ i) && not (isReset (g .flags)) then g .start + g .length else 0
 
 -- the right edge that i gets by it: a + max(w, 1) of the other end's, or the end of its own SYN, with which it begins (a later
 -- SYN's end counts too, and bound I keeps it at or below the edge)
@@ -45,7 +45,7 @@ edgeBy i g =
     else 0
 
 abbrev pub windowBy : ℕ → LineSegment → ℕ
-windowBy i g = if (g .from =ᵇ i) && (rst (g .flags) ≠ᵇ 1) then g .window else 0
+windowBy i g = if (g .from =ᵇ i) && not (isReset (g .flags)) then g .window else 0
 
 -- highest end, highest edge and largest window; 0, 0, 1 over no segment
 unfoldable pub numbersOf : ℕ → List LineSegment → Numbers

@@ -5,7 +5,7 @@ use mathlib.Core.Logic.{_⊎_, inl, inr, ⊎-elim}
 use mathlib.Core.Bool.{Bool, true, false, _&&_, _||_, not}
 use mathlib.Core.List.{List, [], _∷_}
 use lib.ListN.{length}
-use borrow.Author.Tests.{ltb-true, leb-true, eq-eqb, eqb-true, lt-ltb}
+use borrow.Author.Tests.{not-true, ltb-true, leb-true, eq-eqb, eqb-true, lt-ltb}
 use Rattle.choice.specs.Choice.{if_then_else_, _<ᵇ_, _≤ᵇ_, _=ᵇ_}
 use Rattle.choice.proofs.Tests.{&&-true, ||-true, false-true}
 use Rattle.segment.specs.Flags.{syn, rst, ack, SYN, SYN+ACK}
@@ -14,7 +14,7 @@ use Rattle.connection.specs.Ranges.{widest}
 use Rattle.history.specs.History.{LineSegment, onWire, Formed}
 use Rattle.honest.specs.Keys.{Keys}
 use Rattle.honest.specs.Rows.{Table, Ask, search}
-use Rattle.honest.specs.Filter.{connections}
+use Rattle.honest.specs.Connections.{connections}
 use Rattle.honest.specs.Machine.{asks, Machine}
 use Rattle.honest.specs.Rules.{Label, opening, arrival, other, Is, Event, send, call, delivery, Pair, sentBy, Sent, Arrived, InOrder, receivedBy, highest, some, ackOf, edgeOf, endOf, answered, sideOf, keyOf, FirstSegment, LaterSegment, Honest, first, later}
 use Rattle.honest.specs.Honest.{told, passes, Live, said, Passed, Arrives, Opening, Arrival, FairCall, Fair, Legal}
@@ -44,10 +44,6 @@ no = record { holds = false; shows = λ e. false-true e }
 
 abbrev isTrue : (b : Bool) → Test (b ≡ true)
 isTrue b = record { holds = b; shows = λ e. e }
-
-pub not-true : (b : Bool) → not b ≡ true → b ≡ false
-not-true true e = false-true e
-not-true false e = refl
 
 abbrev isFalse : (b : Bool) → Test (b ≡ false)
 isFalse b = record { holds = not b; shows = not-true b }

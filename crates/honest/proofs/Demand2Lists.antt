@@ -18,7 +18,7 @@ use Rattle.history.specs.History.{LineSegment, placed, judge, Holds, Placeable}
 use Rattle.history.proofs.Demand2.{Reached, judged, pass-holds, holds-first, reached-first}
 use Rattle.honest.specs.Keys.{Keys}
 use Rattle.honest.specs.Rows.{Ask, opens, Entry, Table, freeEntry, filter}
-use Rattle.honest.specs.Filter.{connections}
+use Rattle.honest.specs.Connections.{connections}
 use Rattle.honest.specs.Histories.{grown, histories, HoldsOrFree, Stands}
 use Rattle.honest.specs.Demand2.{fresh, tableAfter, AllPlaceable, Demand2}
 use Rattle.honest.proofs.Arrival.{passed-renewed}
@@ -37,15 +37,15 @@ module _ {K : Keys} where
   -- an opening
   made-stands : (a : Ask K) (now : ℕ) → Placeable (a .segment) → opens K a ≡ true → StandsReached (record { key = a .key; connection = opened (a .side) (a .segment) now }) (record { key = a .key; connection = grown (a .side) (placed [] 0 (a .segment) ∷ []) now })
   unfolding opened
-  made-stands a now readable opening =
+  made-stands a now placeable opening =
       let a-syn : a .segment .flags ≡ SYN = eqb-true _ _ (&&-true (a .side =ᵇ 0) (a .segment .flags =ᵇ SYN) opening .1) in
-      let holds = holds-first (a .side) (a .segment) now readable a-syn in (
+      let holds = holds-first (a .side) (a .segment) now placeable a-syn in (
         record { key = refl; side = refl; deadline = ap (λ (s : ℕ). now + lifeOf s) (holds .stage); numbers = holds },
-        λ _. reached-first (a .side) (a .segment) now readable a-syn,
+        λ _. reached-first (a .side) (a .segment) now placeable a-syn,
       )
 
   -- a pass on a live entry
-  module _ {e : Entry K connections} {f : Entry K histories} (i : ℕ) (g : Segment) (r : StandsReached e f) (live-now : 0 < e .connection .deadline) (known : i < 2) (readable : Placeable g) where
+  module _ {e : Entry K connections} {f : Entry K histories} (i : ℕ) (g : Segment) (r : StandsReached e f) (live-now : 0 < e .connection .deadline) (known : i < 2) (placeable : Placeable g) where
     holds : Holds (e .connection) (f .connection .segments)
     holds = live-holds _ _ (r .0 .numbers) live-now
 
@@ -53,11 +53,11 @@ module _ {K : Keys} where
     reached = r .1 (omega (arith, r .0 .deadline))
 
     verdict-same : verdictOn (e .connection) i g ≡ judge (f .connection .segments) (placed (f .connection .segments) i g)
-    verdict-same = judged (e .connection) (f .connection .segments) holds reached (record { sender = i; segment = g; now = 0 }) record { sender-known = known; placeable = readable }
+    verdict-same = judged (e .connection) (f .connection .segments) holds reached (record { sender = i; segment = g; now = 0 }) record { sender-known = known; placeable = placeable }
 
     passed-stands : (now : ℕ) → verdictOn (e .connection) i g ≡ Pass → (rst (g .flags) ≡ 1 → ⊥) → StandsReached (record { key = e .key; connection = passed (e .connection) i g now }) (record { key = f .key; connection = grown (f .connection .side) (placed (f .connection .segments) i g ∷ f .connection .segments) now })
     passed-stands now passes no-reset =
-        let after = pass-holds (e .connection) (f .connection .segments) holds reached (record { sender = i; segment = g; now = now }) record { sender-known = known; placeable = readable } no-reset (sym verdict-same ∙ passes) in
+        let after = pass-holds (e .connection) (f .connection .segments) holds reached (record { sender = i; segment = g; now = now }) record { sender-known = known; placeable = placeable } no-reset (sym verdict-same ∙ passes) in
         let renewed = passed-renewed (e .connection) i g now no-reset in (
           record { key = r .0 .key; side = renewed .side ∙ r .0 .side; deadline = renewed .deadline ∙ ap (λ (s : ℕ). now + lifeOf s) (after .0 .stage); numbers = after .0 },
           λ _. after .1,
@@ -70,8 +70,8 @@ module _ {K : Keys} where
     deadline = λ r. r .0 .deadline;
     free = (record { key = refl; side = refl; deadline = refl; numbers = refl }, λ live-now. absurd (omega arith));
     made = made-stands;
-    verdict = λ i g r live-now known readable. verdict-same i g r live-now known readable;
-    passed = λ i g now r live-now known readable. passed-stands i g r live-now known readable now;
+    verdict = λ i g r live-now known placeable. verdict-same i g r live-now known placeable;
+    passed = λ i g now r live-now known placeable. passed-stands i g r live-now known placeable now;
   }
 
   -- The lists
@@ -88,12 +88,12 @@ module _ {K : Keys} where
 
   tables-related : (n : ℕ) (l : List (Ask K)) → AllPlaceable l → Related StandsReached (tableAfter K connections n l) (tableAfter K histories n l)
   unfolding tableAfter AllPlaceable
-  tables-related n [] readable = fresh-related n
-  tables-related n (a ∷ l) readable = call-same _ _ (tables-related n l (readable .1)) a (readable .0) .table
+  tables-related n [] placeable = fresh-related n
+  tables-related n (a ∷ l) placeable = call-same _ _ (tables-related n l (placeable .1)) a (placeable .0) .table
 
 pub demand2 : (K : Keys) → Demand2 K
-demand2 K n l readable =
-    let related = tables-related n l readable in
+demand2 K n l placeable =
+    let related = tables-related n l placeable in
     record {
       table = record { clock = related .clock; places = related .places; entries = λ p inside. related .entries p inside .0 };
       answer = λ a legal. call-same _ _ related a legal .answer;

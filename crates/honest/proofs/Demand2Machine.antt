@@ -4,7 +4,7 @@ use mathlib.Core.Path.{_≡_, refl, sym, ap, _∙_}
 use mathlib.Core.List.{List, [], _∷_}
 use Rattle.honest.specs.Keys.{Keys}
 use Rattle.honest.specs.Rows.{Ask, Table, filter}
-use Rattle.honest.specs.Filter.{connections}
+use Rattle.honest.specs.Connections.{connections}
 use Rattle.honest.specs.Machine.{Reading, refused, asks, apart, Machine, KeepsTo}
 use Rattle.honest.specs.Demand2.{fresh, tableAfter, AllPlaceable, stateAfter, withAsk, asked, MachineFollows, Demand2Of}
 use Rattle.honest.proofs.Demand2Lists.{demand2}
@@ -21,10 +21,10 @@ module _ {K : Keys} (M : Machine K) (Sound : M .State → Type 0) (keeps : Keeps
   with-ask q (asks a) l e before = (keeps .well-formed q a e, before)
   with-ask q apart l e before = before
 
-  all-readable : (l : List (M .Call)) → AllPlaceable (asked M l)
+  all-placeable : (l : List (M .Call)) → AllPlaceable (asked M l)
   unfolding asked AllPlaceable
-  all-readable [] = tt
-  all-readable (q ∷ l) = with-ask q (M .reads q) (asked M l) refl (all-readable l)
+  all-placeable [] = tt
+  all-placeable (q ∷ l) = with-ask q (M .reads q) (asked M l) refl (all-placeable l)
 
   -- one call more
   view-next : (s : M .State) (q : M .Call) (r : Reading (Ask K)) (l : List (Ask K)) → Sound s → M .reads q ≡ r → M .view s ≡ tableAfter K connections n l → M .view (M .run s q .next) ≡ tableAfter K connections n (withAsk r l)
@@ -42,7 +42,7 @@ module _ {K : Keys} (M : Machine K) (Sound : M .State → Type 0) (keeps : Keeps
 
   machine-follows : (l : List (M .Call)) → MachineFollows M s₀ n l
   machine-follows l =
-      let follows = demand2 K n (asked M l) (all-readable l) in
+      let follows = demand2 K n (asked M l) (all-placeable l) in
       record {
         table = rw (view-after l) (follows .table);
         answer = λ q a e. keeps .answered (stateAfter M s₀ l) q a (stays-sound l) e ∙ ap (λ (t : Table K connections). filter K connections t a .answer) (view-after l) ∙ follows .answer a (keeps .well-formed q a e);

@@ -20,7 +20,7 @@ use Rattle.history.specs.History.{LineSegment, onWire, stageOf, Holds, Formed}
 use Rattle.history.proofs.Pass.{opened-unanswered, opened-holds, opener-begins}
 use Rattle.honest.specs.Keys.{Keys}
 use Rattle.honest.specs.Rows.{Table, Ask, Reply, clockUsed, search, pass, entryAfter, matched, filter}
-use Rattle.honest.specs.Filter.{connections, SoundTable}
+use Rattle.honest.specs.Connections.{connections, SoundTable}
 use Rattle.honest.specs.Machine.{Reading, refused, asks, apart, Machine, clockIn, KeepsTo}
 use Rattle.honest.specs.Rules.{Label, opening, arrival, other, Event, send, call, delivery, Pair, sideOf, keyOf, Sent, Arrived, receivedBy, answered, Honest}
 use Rattle.honest.specs.Honest.{Told, passes, nextClock, afterSegment, afterCall, told, said, Passed, Opening, Arrival, FairCall, Legal, NeverBlocked, Demand3}

@@ -7,7 +7,7 @@ use lib.ListN.{length, getD, replicate, length-replicate, getD-replicate}
 use Rattle.choice.proofs.Tests.{false-true}
 use Rattle.honest.specs.Keys.{Keys}
 use Rattle.honest.specs.Rows.{freeEntry}
-use Rattle.honest.specs.Filter.{connections}
+use Rattle.honest.specs.Connections.{connections}
 use Rattle.honest.specs.Machine.{KeepsTo}
 use Rattle.honest.specs.Rules.{Event, Pair}
 use Rattle.honest.specs.Honest.{Legal, NeverBlocked, Demand3}

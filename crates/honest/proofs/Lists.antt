@@ -2,7 +2,7 @@
 use Prim.Native.Nat.{ℕ, _-_, _≤_}
 use mathlib.Core.Path.{_≡_, refl, sym, ap, _∙_}
 use mathlib.Core.Logic.{_⊎_, inl, inr, ⊎-elim}
-use mathlib.Core.Bool.{Bool, true, false, _&&_, _||_}
+use mathlib.Core.Bool.{Bool, true, false, _&&_, _||_, or-true}
 use mathlib.Core.List.{List, [], _∷_}
 use native.Mathlib.Omega.{arith}
 use lib.Dec.{eqb}
@@ -39,10 +39,6 @@ some-in test (g ∷ l) e =
     ⊎-elim (λ (here : test g ≡ true). (g, inl refl, here))
     (λ (there : some test l ≡ true). let r = some-in test l there in (r .0, inr (r .1), r .2))
     (||-true (test g) (some test l) e)
-
-or-true : (t : Bool) → (t || true) ≡ true
-or-true true = refl
-or-true false = refl
 
 pub in-some : (test : LineSegment → Bool) (l : List LineSegment) (p : LineSegment) → In p l → test p ≡ true → some test l ≡ true
 unfolding some

@@ -2,7 +2,7 @@
 use mathlib.Core.Path.{_≡_, refl}
 use mathlib.Core.Bool.{true}
 use Rattle.choice.specs.Choice.{if_then_else_}
-use Rattle.serial.specs.Ring.{ringPlus, ringMinus, standing}
+use Rattle.serial.specs.Ring.{wrap, ringPlus, ringMinus, nearest}
 use Rattle.serial.specs.Serial.{further}
 use Rattle.connection.specs.Ends.{sent, granted, written}
 use Rattle.connection.specs.Ranges.{sequenceMet, ackMet}
@@ -12,5 +12,5 @@ use Rattle.honest.specs.Rows.{matches, senderOf, firstFrom, unmatched, m
 use Rattle.honest.specs.Marked.{markedSet, allHold}
 
 pub marked : allHold markedSet ≡ true
-unfolding if_then_else_ ringPlus ringMinus standing further sent granted written sequenceMet ackMet lifeOf withFin finsAfter openStage stageAfter sameSyn reply verdictUnanswered verdictByRanges verdictOn opened repeated answered carried passed matches senderOf firstFrom unmatched matched filter
+unfolding if_then_else_ wrap ringPlus ringMinus nearest further sent granted written sequenceMet ackMet lifeOf withFin finsAfter openStage stageAfter sameSyn reply verdictUnanswered verdictByRanges verdictOn opened repeated answered carried passed matches senderOf firstFrom unmatched matched filter
 marked = refl

@@ -16,7 +16,7 @@ use Rattle.connection.specs.declared.Verdict.{Verdict}
 use Rattle.connection.specs.declared.Verdict.the-variants.{Pass, NotAllowed, SequenceMissed, AckMissed}
 use Rattle.honest.specs.Keys.{Keys}
 use Rattle.honest.specs.Rows.{Bodies, Entry, Table, Ask, Reply, freeEntry, clockUsed, matches, senderOf, firstFrom, liveMatch, search, lowestVacant, refuse, pass, opens, entryAfter, byVerdict, filter, matched, unmatched}
-use Rattle.honest.specs.Filter.{connections}
+use Rattle.honest.specs.Connections.{connections}
 
 module _ (K : Keys) (B : Bodies) where
   pub sender-known : (e : Entry K B) (a : Ask K) → senderOf K B e a < 2

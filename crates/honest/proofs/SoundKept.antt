@@ -13,6 +13,7 @@ use Rattle.choice.proofs.Choice.{if-true, if-false, if-either, if-<}
 use Rattle.choice.proofs.Tests.{true-or-false}
 use Rattle.serial.specs.Ring.{ringPlus}
 use Rattle.serial.specs.Serial.{further}
+use Rattle.serial.proofs.Ring.{wrap-small}
 use Rattle.serial.specs.declared.SeqNum.{SeqNum}
 use Rattle.segment.specs.Flags.{rst}
 use Rattle.segment.specs.declared.Segment.{Segment}
@@ -28,7 +29,7 @@ use Rattle.history.specs.Records.{Fits, TwoEnds}
 use Rattle.history.proofs.Sound.{sound-facts, facts-sound, opened-sound, passed-sound}
 use Rattle.honest.specs.Keys.{Keys}
 use Rattle.honest.specs.Rows.{Entry, Table, Ask, Reply, freeEntry, clockUsed, senderOf, search, entryAfter, byVerdict, filter, matched}
-use Rattle.honest.specs.Filter.{connections, SoundTable}
+use Rattle.honest.specs.Connections.{connections, SoundTable}
 use Rattle.honest.specs.Typed.{Typed, TypedTable}
 use Rattle.honest.proofs.Search.{sender-known, Outcome, refuses, passes, makes, outcome}
 
@@ -41,20 +42,20 @@ plus-below : (s n : ℕ) → ringPlus s n < 2 ^ 32
 unfolding ringPlus
 plus-below s n = omega arith
 
-further-below : (base a b : SeqNum) → Below a → Below b → Below (further base a b)
+further-below : (base a b : SeqNum) → Below (further base a b)
 unfolding further
-further-below base a b p q = if-either Below _ b a q p
+further-below base a b = wrap-small _
 
 opening-fits : (g : Segment) → Fits (opening g)
 opening-fits g = record { end = plus-below _ _; edge = plus-below _ _ }
 
 sent-fits : (e : End) (g : Segment) → Fits e → Fits (sent e g)
 unfolding sent
-sent-fits e g f = record { end = further-below (e .end) (e .end) _ (f .end) (plus-below _ _); edge = f .edge }
+sent-fits e g f = record { end = further-below (e .end) (e .end) _; edge = f .edge }
 
 granted-fits : (e : End) (g : Segment) → Fits e → Fits (granted e g)
 unfolding granted
-granted-fits e g f = record { end = f .end; edge = further-below (e .end) (e .edge) _ (f .edge) (plus-below _ _) }
+granted-fits e g f = record { end = f .end; edge = further-below (e .end) (e .edge) _ }
 
 -- Two ends stay two
 
@@ -170,7 +171,7 @@ module _ (K : Keys) where
 
     -- what it leaves of the entry is free or sound
     passed-entry : (e : Entry K connections) → SoundEntry (t .clock) e → Placeable (a .segment) → clockUsed K connections t a < e .connection .deadline → verdictOn (e .connection) (senderOf K connections e a) (a .segment) ≡ Pass → SoundEntry (clockUsed K connections t a) (entryAfter K connections e (senderOf K connections e a) (a .segment) (clockUsed K connections t a))
-    passed-entry e s readable live verdict = go (true-or-false (rst (a .segment .flags) =ᵇ 1))
+    passed-entry e s placeable live verdict = go (true-or-false (rst (a .segment .flags) =ᵇ 1))
       where
         not-free : soundConnection (t .clock) (e .connection) ≡ true
         not-free = ⊎-elim (λ free. absurd (omega (arith, ap (λ (f : Entry K connections). f .connection .deadline) free))) (λ sound. sound) (s .sound)
@@ -179,12 +180,12 @@ module _ (K : Keys) where
         go (inl reset) = rw if-true (free-sound _)
         go (inr none) =
             rw if-false record {
-              sound = inr (passed-sound (t .clock) (e .connection) (s .typed .0) (s .typed .1) not-free (senderOf K connections e a) (sender-known K connections e a) (a .segment) readable (clockUsed K connections t a) verdict (eqb-false _ _ none));
+              sound = inr (passed-sound (t .clock) (e .connection) (s .typed .0) (s .typed .1) not-free (senderOf K connections e a) (sender-known K connections e a) (a .segment) placeable (clockUsed K connections t a) verdict (eqb-false _ _ none));
               typed = passed-typed (e .connection) (s .typed .0) (s .typed .1) (a .segment) (clockUsed K connections t a) (senderOf K connections e a) (sender-known K connections e a);
             }
 
     pub filter-sound : SoundTable K t → TypedTable K t → a .side ≤ 1 → Placeable (a .segment) → SoundTable K (filter K connections t a .table) × TypedTable K (filter K connections t a .table)
-    filter-sound sound typed known readable = ((λ p inside. all p inside .sound), (λ p inside. all p inside .typed))
+    filter-sound sound typed known placeable = ((λ p inside. all p inside .sound), (λ p inside. all p inside .typed))
       where
         before : SoundEntries (t .clock) (t .entries)
         before p inside = record { sound = sound p inside; typed = typed p inside }
@@ -194,10 +195,10 @@ module _ (K : Keys) where
 
         go : Outcome K t a → SoundEntries (filter K connections t a .table .clock) (filter K connections t a .table .entries)
         go (refuses _ kept) = rw kept before
-        go (passes e there found live is) = rw is (written-sound (clockUsed K connections t a) (t .entries) _ _ stays (passed-entry e (rw there at (before _ found)) readable live (pass-verdict e there found (rw is))))
+        go (passes e there found live is) = rw is (written-sound (clockUsed K connections t a) (t .entries) _ _ stays (passed-entry e (rw there at (before _ found)) placeable live (pass-verdict e there found (rw is))))
         go (makes _ _ _ is) =
             rw is (written-sound (clockUsed K connections t a) (t .entries) _ _ stays
-            record { sound = inr (opened-sound (a .side) (a .segment) (clockUsed K connections t a) known readable); typed = opened-typed (a .side) (a .segment) (clockUsed K connections t a) })
+            record { sound = inr (opened-sound (a .side) (a .segment) (clockUsed K connections t a) known placeable); typed = opened-typed (a .side) (a .segment) (clockUsed K connections t a) })
 
         all : SoundEntries (filter K connections t a .table .clock) (filter K connections t a .table .entries)
         all = go (outcome K t a)

@@ -12,12 +12,12 @@ use Rattle.connection.specs.Stages.{lifeOf}
 use Rattle.history.specs.History.{LineSegment, stageOf}
 use Rattle.honest.specs.Keys.{Keys}
 use Rattle.honest.specs.Rows.{Table}
-use Rattle.honest.specs.Filter.{connections}
+use Rattle.honest.specs.Connections.{connections}
 use Rattle.honest.specs.Machine.{refused, asks, Machine, clockIn, KeepsTo}
 use Rattle.honest.specs.Rules.{Label, opening, arrival, other, Event, send, call, delivery, Pair, sentBy, Sent, Arrived, receivedBy, answered, Honest, first, later}
 use Rattle.honest.specs.Honest.{Told, passes, nextClock, afterSegment, afterCall, told, said, Live, Passed, Arrives, FairCall, Legal}
 use Rattle.honest.specs.Instance.{ListCall, listMachine}
-use Rattle.honest.specs.Carries.{Carries, none, sent, called, refused-alone, delivered, LegalCarried, withCall, withOther, readings, ifAsked, otherAnswers, shownBy, ShownCarried}
+use Rattle.honest.specs.Carries.{Carries, none, sent, called, refused-alone, delivered, LegalCarried, withCall, withOther, readings, ifAsked, otherAnswers, summaryOf, SummaryCarried}
 
 -- What ends have sent and received, and what has arrived
 
@@ -255,11 +255,11 @@ module _ {K : Keys} (M : Machine K) (Sound : M .State → Type 0) (keeps : Keeps
   others-same (refused-alone {q = q} {L = L} is c) = ap (λ r. ifAsked r (said M s₀ L q .answer) (otherAnswers M s₀ L)) is ∙ others-same c
   others-same (delivered c) = others-same c
 
-  shown-along : {L : Carrying M} {N : Carried M} → Carries M L N → shownBy M s₀ L ≡ shownBy F t₀ N
-  shown-along c = λ i. record { others = reverse (others-same c i); place = place-same c i; stage = stageOf (sym (told-same c) i .passed) }
+  summary-along : {L : Carrying M} {N : Carried M} → Carries M L N → summaryOf M s₀ L ≡ summaryOf F t₀ N
+  summary-along c = λ i. record { others = reverse (others-same c i); place = place-same c i; stage = stageOf (sym (told-same c) i .passed) }
 
 pub legal-carried : {K : Keys} (M : Machine K) (Sound : M .State → Type 0) → KeepsTo K M Sound → LegalCarried M Sound
 legal-carried M Sound keeps s₀ sound P L N carries legal = legal-along M Sound keeps s₀ sound P carries legal
 
-pub shown-carried : {K : Keys} (M : Machine K) (Sound : M .State → Type 0) → KeepsTo K M Sound → ShownCarried M Sound
-shown-carried M Sound keeps s₀ sound L N carries = shown-along M Sound keeps s₀ sound carries
+pub summary-carried : {K : Keys} (M : Machine K) (Sound : M .State → Type 0) → KeepsTo K M Sound → SummaryCarried M Sound
+summary-carried M Sound keeps s₀ sound L N carries = summary-along M Sound keeps s₀ sound carries

@@ -4,7 +4,7 @@ use mathlib.Core.Bool.{true}
 use mathlib.Core.List.{[], _∷_}
 use native.Mathlib.Omega.{arith}
 use Rattle.choice.specs.Choice.{if_then_else_}
-use Rattle.serial.specs.Ring.{wrap, ringPlus, ringMinus, standing}
+use Rattle.serial.specs.Ring.{wrap, ringPlus, ringMinus, nearest}
 use Rattle.serial.specs.Serial.{further}
 use Rattle.connection.specs.Ends.{sent, granted, written}
 use Rattle.connection.specs.Ranges.{sequenceMet, ackMet}
@@ -17,7 +17,7 @@ use Rattle.honest.specs.Rules.{sentBy, receivedBy, highest, some}
 use Rattle.honest.specs.Honest.{passes, afterCall, told, Legal, NeverBlocked}
 use Rattle.honest.specs.IPv4.{IPv4}
 use Rattle.honest.specs.Instance.{listMachine}
-use Rattle.honest.specs.Carries.{shownBy}
+use Rattle.honest.specs.Carries.{summaryOf}
 use Rattle.honest.specs.Marked.{empty}
 use Rattle.honest.specs.Witness.{ends, witness}
 use Rattle.honest.proofs.Check.{legal?, legal?-sound}
@@ -25,8 +25,8 @@ use Rattle.honest.proofs.Instance.{demand3-list, fresh-sound}
 
 computed :
     (legal? empty ends witness ≡ true)
-    × (shownBy (listMachine IPv4) empty witness ≡ record { others = 0 ∷ 11 ∷ 14 ∷ 0 ∷ []; place = 1; stage = 5 })
-unfolding if_then_else_ wrap ringPlus ringMinus standing further sent granted written sequenceMet ackMet lifeOf withFin finsAfter openStage stageAfter sameSyn reply verdictUnanswered verdictByRanges verdictOn opened repeated answered carried passed finsOf stageOf matches senderOf firstFrom unmatched matched filter sentBy receivedBy highest some passes afterCall told Rules.answered
+    × (summaryOf (listMachine IPv4) empty witness ≡ record { others = 0 ∷ 11 ∷ 14 ∷ 0 ∷ []; place = 1; stage = 5 })
+unfolding if_then_else_ wrap ringPlus ringMinus nearest further sent granted written sequenceMet ackMet lifeOf withFin finsAfter openStage stageAfter sameSyn reply verdictUnanswered verdictByRanges verdictOn opened repeated answered carried passed finsOf stageOf matches senderOf firstFrom unmatched matched filter sentBy receivedBy highest some passes afterCall told Rules.answered
 computed = (refl, refl)
 
 pub witness-legal : Legal (listMachine IPv4) empty ends witness
@@ -36,5 +36,5 @@ pub witness-passes : NeverBlocked (listMachine IPv4) empty witness
 witness-passes = demand3-list IPv4 empty (fresh-sound IPv4 64) ends (omega arith) witness witness-legal
 
 -- of the calls that are no arrivals, the two openings pass and the two others are blocked; every FIN has passed
-pub witness-shows : shownBy (listMachine IPv4) empty witness ≡ record { others = 0 ∷ 11 ∷ 14 ∷ 0 ∷ []; place = 1; stage = 5 }
+pub witness-shows : summaryOf (listMachine IPv4) empty witness ≡ record { others = 0 ∷ 11 ∷ 14 ∷ 0 ∷ []; place = 1; stage = 5 }
 witness-shows = computed .1

@@ -41,11 +41,11 @@ readings M (send p ∷ L) = readings M L
 readings M (call q l ∷ L) = M .reads q ∷ readings M L
 readings M (delivery k p ∷ L) = readings M L
 
--- What a list shows besides
+-- What a list comes to, so that a witness is seen to do something
 
 -- the answers to the calls that ask something and are no arrivals, oldest first; the place that the opening took; the stage of what has
 -- passed there
-pub record Shown : Type 0 where
+pub record Summary : Type 0 where
   pub others : List ℕ
   pub place : ℕ
   pub stage : ℕ
@@ -67,8 +67,8 @@ module _ {K : Keys} (M : Machine K) (s₀ : M .State) where
   otherAnswers (delivery k p ∷ L) = otherAnswers L
 
   -- by what the calls tell
-  abbrev pub shownBy : List (Event (M .Call)) → Shown
-  shownBy L = record { others = reverse (otherAnswers L); place = told M s₀ L .place; stage = stageOf (told M s₀ L .passed) }
+  abbrev pub summaryOf : List (Event (M .Call)) → Summary
+  summaryOf L = record { others = reverse (otherAnswers L); place = told M s₀ L .place; stage = stageOf (told M s₀ L .passed) }
 
 -- The claims: of a machine, from every sound state, for every list that carries another
 
@@ -79,8 +79,8 @@ module _ {K : Keys} (M : Machine K) (Sound : M .State → Type 0) where
       (s₀ : M .State) → Sound s₀ → (P : Pair K) → (L : List (Event (M .Call))) (N : List (Event (ListCall K))) → Carries M L N →
       Legal (listMachine K) (M .view s₀) P N → Legal M s₀ P L
 
-  -- it shows the same
-  abbrev pub ShownCarried : Type 0
-  ShownCarried =
+  -- it comes to the same
+  abbrev pub SummaryCarried : Type 0
+  SummaryCarried =
       (s₀ : M .State) → Sound s₀ → (L : List (Event (M .Call))) (N : List (Event (ListCall K))) → Carries M L N →
-      shownBy M s₀ L ≡ shownBy (listMachine K) (M .view s₀) N
+      summaryOf M s₀ L ≡ summaryOf (listMachine K) (M .view s₀) N

@@ -6,7 +6,7 @@ use lib.ListN.{length, getD, replicate}
 use Rattle.history.specs.History.{Placeable}
 use Rattle.honest.specs.Keys.{Keys}
 use Rattle.honest.specs.Rows.{Bodies, Ask, Table, Reply, freeEntry, filter}
-use Rattle.honest.specs.Filter.{connections}
+use Rattle.honest.specs.Connections.{connections}
 use Rattle.honest.specs.Histories.{histories, Stands}
 use Rattle.honest.specs.Machine.{Reading, refused, asks, apart, Machine}
 

@@ -10,7 +10,7 @@ use Rattle.connection.specs.declared.Connection.{Connection}
 use Rattle.history.specs.History.{LineSegment, stageOf, placed, judge, Holds}
 use Rattle.honest.specs.Keys.{Keys}
 use Rattle.honest.specs.Rows.{Bodies, Entry}
-use Rattle.honest.specs.Filter.{connections}
+use Rattle.honest.specs.Connections.{connections}
 
 -- newest first; a free entry has no segments
 pub record History : Type 0 where

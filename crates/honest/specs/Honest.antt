@@ -10,7 +10,7 @@ use Rattle.connection.specs.Stages.{lifeOf}
 use Rattle.history.specs.History.{LineSegment, onWire, stageOf, Formed}
 use Rattle.honest.specs.Keys.{Keys}
 use Rattle.honest.specs.Rows.{Ask, search, nowhere}
-use Rattle.honest.specs.Filter.{connections}
+use Rattle.honest.specs.Connections.{connections}
 use Rattle.honest.specs.Machine.{Said, asks, Machine, clockIn}
 use Rattle.honest.specs.Rules.{Label, opening, arrival, other, Is, Event, send, call, delivery, Pair, Sent, Arrived, InOrder, sideOf, keyOf, Honest}
 

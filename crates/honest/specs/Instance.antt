@@ -3,7 +3,7 @@ use Prim.Native.Nat.{_≤_}
 use Rattle.history.specs.History.{Placeable}
 use Rattle.honest.specs.Keys.{Keys}
 use Rattle.honest.specs.Rows.{Table, Ask, filter}
-use Rattle.honest.specs.Filter.{connections, SoundTable}
+use Rattle.honest.specs.Connections.{connections, SoundTable}
 use Rattle.honest.specs.Machine.{asks, Machine}
 use Rattle.honest.specs.Typed.{TypedTable}
 

@@ -1,6 +1,6 @@
 pub mod Keys
 pub mod Rows
-pub mod Filter
+pub mod Connections
 pub mod Machine
 pub mod Rules
 pub mod Honest

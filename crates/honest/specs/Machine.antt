@@ -4,7 +4,7 @@ use mathlib.Core.Path.{_≡_}
 use Rattle.history.specs.History.{Placeable}
 use Rattle.honest.specs.Keys.{Keys}
 use Rattle.honest.specs.Rows.{Ask, Table, filter}
-use Rattle.honest.specs.Filter.{connections, SoundTable}
+use Rattle.honest.specs.Connections.{connections, SoundTable}
 
 -- what a machine says to a call, and the state that it leaves
 pub record Said (State : Type 0) : Type 0 where

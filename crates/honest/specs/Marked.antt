@@ -4,12 +4,12 @@ use mathlib.Core.Bool.{Bool, true, _&&_}
 use mathlib.Core.List.{List, [], _∷_}
 use lib.ListN.{getD, replicate}
 use Rattle.choice.specs.Choice.{_=ᵇ_, if_then_else_}
-use Rattle.segment.specs.Flags.{SYN, SYN+ACK}
+use Rattle.segment.specs.Flags.{SYN, SYN+ACK, ACK}
 use Rattle.segment.specs.declared.Segment.{Segment}
 use Rattle.connection.specs.Ends.{count, seqNum, sender}
 use Rattle.connection.specs.declared.End.{End}
 use Rattle.honest.specs.Rows.{Entry, Table, Ask, freeEntry, filter, nowhere}
-use Rattle.honest.specs.Filter.{connections}
+use Rattle.honest.specs.Connections.{connections}
 use Rattle.honest.specs.Demand2.{fresh}
 use Rattle.honest.specs.IPv4.{Addresses, IPv4, address}
 
@@ -18,9 +18,6 @@ use Rattle.honest.specs.IPv4.{Addresses, IPv4, address}
 -- by flags, s, n, a and w
 abbrev pub segment : (flags s n a w : ℕ) → Segment
 segment flags s n a w = record { seq = seqNum s; ack = seqNum a; window = count w; flags = flags; octets = count n }
-
-abbrev pub ACK : ℕ
-ACK = 16
 
 -- from 10.0.0.1 port 1024, on side 0, to 10.0.0.2 port 80
 abbrev pub outward : Addresses

@@ -6,7 +6,7 @@ use Rattle.connection.specs.declared.End.{End}
 use Rattle.history.specs.Records.{TwoEnds}
 use Rattle.honest.specs.Keys.{Keys}
 use Rattle.honest.specs.Rows.{Table, freeEntry}
-use Rattle.honest.specs.Filter.{connections}
+use Rattle.honest.specs.Connections.{connections}
 
 abbrev pub Typed : Connection → Type 0
 Typed c = (x : ℕ → End) × TwoEnds c x

@@ -12,12 +12,12 @@ use borrow.Author.Tests.{leb-true, eqb-true, eq-eqb}
 use Rattle.choice.specs.Choice.{_=ᵇ_, _≤ᵇ_}
 use Rattle.choice.proofs.Tests.{&&-true, false-true}
 use Rattle.serial.proofs.Ring.{wrap-small}
-use Rattle.segment.specs.Flags.{syn, SYN, SYN+ACK}
+use Rattle.segment.specs.Flags.{syn, SYN, SYN+ACK, ACK, FIN+ACK}
 use Rattle.history.specs.History.{LineSegment, onWire, Placeable}
 use Rattle.honest.specs.Rules.{opening, arrival, other, Event, send, call, delivery, Pair}
 use Rattle.honest.specs.IPv4.{Addresses, IPv4, address, swapped}
 use Rattle.honest.specs.Instance.{ListCall}
-use Rattle.honest.specs.Marked.{ACK, outward}
+use Rattle.honest.specs.Marked.{outward}
 
 -- The pair: the opener's SYN is number 2^32 − 3, the answerer's 2^32 − 2
 
@@ -42,8 +42,8 @@ is-true : (b : Bool) → T b → b ≡ true
 is-true true _ = refl
 is-true false never = absurd never
 
-pub readable : (p : LineSegment) → T (wellFormed p) → Placeable (onWire p)
-readable p formed =
+pub placeable : (p : LineSegment) → T (wellFormed p) → Placeable (onWire p)
+placeable p formed =
     let h = &&-true (p .window ≤ᵇ 65535) _ (is-true _ formed) in
     record {
       seq-fits = wrap-small (p .start);
@@ -56,9 +56,6 @@ readable p formed =
 pub record Piece : Type 0 where
   pub line : LineSegment
   pub formed : T (wellFormed line)
-
-abbrev pub FIN+ACK : ℕ
-FIN+ACK = 17
 
 -- by flags, s, n, a and w; s and a are counted from the SYN of the end that they belong to
 abbrev pub openerLine : (flags s n a w : ℕ) → LineSegment
@@ -142,7 +139,7 @@ keyFrom zero = outward
 keyFrom (suc i) = swapped outward
 
 abbrev pub calls : (side : ℕ) → side ≤ 1 → (clock : ℕ) → Addresses → Piece → ListCall IPv4
-calls side known clock key p = (record { side = side; clock = clock; key = key; segment = onWire (p .line) }, known, readable (p .line) (p .formed))
+calls side known clock key p = (record { side = side; clock = clock; key = key; segment = onWire (p .line) }, known, placeable (p .line) (p .formed))
 
 abbrev pub brings : (clock : ℕ) → Piece → ListCall IPv4
 brings clock p = calls (sideFrom (p .line .from)) (side-known (p .line .from)) clock (keyFrom (p .line .from)) p

@@ -8,7 +8,7 @@ use native.Mathlib.Numerals.{add-one}
 use lib.ListN.{length, getD, take, drop, drop-of-length-le}
 use lib.Seq.{take-suc, take-length, drop-cons}
 use Rattle.choice.proofs.Choice.{if-true, if-false, if-=, if-=-not}
-use Rattle.choice.proofs.Tests.{between, not-between-below, not-between-above}
+use Rattle.choice.proofs.Tests.{true-between, not-between-below, not-between-above}
 use Rattle.octets.specs.Digits.{number}
 use Rattle.script.specs.Fields.{field, decimalValue, decimalNumber, decimalField}
 
@@ -16,7 +16,7 @@ use Rattle.script.specs.Fields.{field, decimalValue, decimalNumber, deci
 
 pub decimalValue-digit : (c : ℕ) → 48 ≤ c → c ≤ 57 → decimalValue c ≡ c - 48
 unfolding decimalValue
-decimalValue-digit c low high = if-true _ _ _ (between 48 57 c low high)
+decimalValue-digit c low high = if-true _ _ _ (true-between 48 57 c low high)
 
 pub decimalValue-below : (c : ℕ) → c < 48 → decimalValue c ≡ 0
 unfolding decimalValue

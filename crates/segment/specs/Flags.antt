@@ -31,6 +31,12 @@ SYN = 2
 abbrev pub SYN+ACK : ℕ
 SYN+ACK = 18
 
+abbrev pub ACK : ℕ
+ACK = 16
+
+abbrev pub FIN+ACK : ℕ
+FIN+ACK = 17
+
 -- without FIN
 abbrev pub ACK+RST : ℕ
 ACK+RST = 20

@@ -1,14 +1,15 @@
 -- Laws that relate the ring to the line, at windows up to `largestWindow` and ranges up to `largestRange`. Capital letters are
 -- places on the line: E an end, R an edge, S and A where a segment starts and what it acknowledges; W, n, K are counts.
-use Prim.Native.Nat.{ℕ, _+_, _-_, _%_, _^_, _<_, _≤_}
+use Prim.Native.Nat.{ℕ, _+_, _-_, _*_, _%_, _^_, _<_, _≤_}
 use mathlib.Core.Path.{_≡_, refl, sym, ap, _∙_}
 use mathlib.Core.Logic.{_↔_}
 use mathlib.Core.Bool.{Bool, true, false}
 use native.Mathlib.Omega.{arith}
 use lib.Dec.{ltb, eqb}
 use borrow.Author.Tests.{ltb-true, ltb-false}
+use Rattle.choice.proofs.Choice.{if-cases}
 use Rattle.choice.proofs.Tests.{eqb≡eqb}
-use Rattle.serial.specs.Ring.{wrap, ringPlus, ringMinus, standing, nearest, largestWindow, largestRange}
+use Rattle.serial.specs.Ring.{wrap, ringPlus, ringMinus, nearest, NearestIs, largestWindow, largestRange}
 
 -- Wrapping
 
@@ -24,6 +25,11 @@ wrap-id s fits = omega arith
 pub wrap-turn : (X : ℕ) → wrap (X + 2 ^ 32) ≡ wrap X
 unfolding wrap
 wrap-turn X = omega arith
+
+-- whole turns, from a turn up, so that nothing falls below zero
+pub wrap-turns : (X turns : ℕ) → turns * 2 ^ 32 ≤ X + 2 ^ 32 → wrap (X + 2 ^ 32 - turns * 2 ^ 32) ≡ wrap X
+unfolding wrap
+wrap-turns X turns below = omega arith
 
 -- two places closer than a turn with one sequence number are one place
 pub wrap-injective : (X Y : ℕ) → wrap X ≡ wrap Y → X < Y + 2 ^ 32 → Y < X + 2 ^ 32 → X ≡ Y
@@ -47,15 +53,14 @@ pub wrap-minus : (X Y : ℕ) → Y ≤ X → X < Y + 2 ^ 32 → ringMinus (wrap 
 unfolding wrap ringMinus
 wrap-minus X Y below near = omega arith
 
+pub ringMinus-small : (x y : ℕ) → ringMinus x y < 2 ^ 32
+unfolding ringMinus
+ringMinus-small x y = omega arith
+
 -- the number that, added to y, wraps to x
 pub ringMinus-unique : (r x y : ℕ) → r < 2 ^ 32 → y < 2 ^ 32 → (r + y) % 2 ^ 32 ≡ x → r ≡ ringMinus x y
 unfolding ringMinus
 ringMinus-unique r x y small small' sum = omega arith
-
--- the same of what `standing` adds after the difference
-pub standing-unique : (r x base : ℕ) → r < 2 ^ 32 → base < 2 ^ 32 → (r + base) % 2 ^ 32 ≡ x → (r + 2 ^ 31) % 2 ^ 32 ≡ standing base x
-unfolding standing
-standing-unique r x base small small' sum = omega arith
 
 -- counted up from L, a sequence number is reached within a turn
 pub wrap-counted : (L s : ℕ) → s < 2 ^ 32 → wrap (L + ringMinus s (wrap L)) ≡ s
@@ -116,24 +121,41 @@ ack-unwrap E A K small near near' met = from-end (ltb E A) refl
 
 -- The whole number nearest
 
--- X within 2^31 of B stands where it is
-pub standing-wrap : (B X : ℕ) → B ≤ X + 2 ^ 31 → X < B + 2 ^ 31 → standing (wrap B) (wrap X) ≡ X + 2 ^ 31 - B
-unfolding standing wrap
-standing-wrap B X near near' = omega arith
-
+-- both lines of the choice, by the count from E up
 pub wrap-nearest : (E s : ℕ) → 2 ^ 31 ≤ E → s < 2 ^ 32 → wrap (nearest E s) ≡ s
-unfolding nearest standing wrap
-wrap-nearest E s high fits = omega arith
+unfolding nearest
+wrap-nearest E s high fits =
+    let up = ringMinus s (wrap E) in
+    if-cases (λ (X : ℕ). wrap X ≡ s) _ (E + up) (E + up - 2 ^ 32) (λ _. wrap-counted E s fits)
+    (λ far.
+    let turned : E + up - 2 ^ 32 + 2 ^ 32 ≡ E + up = omega (arith, ltb-false up (2 ^ 31) far) in
+    sym (wrap-turn (E + up - 2 ^ 32)) ∙ ap wrap turned ∙ wrap-counted E s fits)
 
 pub nearest-near : (E s : ℕ) → 2 ^ 31 ≤ E → (E ≤ nearest E s + 2 ^ 31) × (nearest E s < E + 2 ^ 31)
-unfolding nearest standing
-nearest-near E s high = (omega arith, omega arith)
+unfolding nearest
+nearest-near E s high =
+    let up = ringMinus s (wrap E) in
+    if-cases (λ (X : ℕ). (E ≤ X + 2 ^ 31) × (X < E + 2 ^ 31)) _ (E + up) (E + up - 2 ^ 32)
+    (λ near. omega (arith, ltb-true up (2 ^ 31) near))
+    (λ far. omega (arith, ltb-false up (2 ^ 31) far, ringMinus-small s (wrap E)))
+
+pub nearest-is : NearestIs
+nearest-is E s X high fits = (
+  (λ is. rw is (wrap-nearest E s high fits, nearest-near E s high .0, nearest-near E s high .1)),
+  (λ place.
+      let n = nearest-near E s high in
+      wrap-injective X (nearest E s) (place .0 ∙ sym (wrap-nearest E s high fits)) (omega arith) (omega arith)),
+)
 
 -- a place within 2^31 of E is the nearest with its sequence number
 pub nearest-wrap : (E S : ℕ) → 2 ^ 31 ≤ E → E ≤ S + 2 ^ 31 → S < E + 2 ^ 31 → nearest E (wrap S) ≡ S
-nearest-wrap E S high near near' =
-    let n = nearest-near E (wrap S) high in
-    wrap-injective (nearest E (wrap S)) S (wrap-nearest E (wrap S) high (wrap-small S)) (omega arith) (omega arith)
+nearest-wrap E S high near near' = sym (nearest-is E (wrap S) S high (wrap-small S) .1 (refl, near, near'))
+
+-- counted from half a turn below base, the number that, added to base, wraps to x
+pub nearest-counted : (base x up : ℕ) → up < 2 ^ 32 → base < 2 ^ 32 → (up + base) % 2 ^ 32 ≡ x → nearest (base + 2 ^ 32) x ≡ base + 2 ^ 31 + (up + 2 ^ 31) % 2 ^ 32
+unfolding wrap
+nearest-counted base x up small small' sum =
+    sym (nearest-is (base + 2 ^ 32) x _ (omega arith) (omega arith) .1 (omega arith, omega arith, omega arith))
 
 -- What a pass writes, told from the counts that the ranges compare
 

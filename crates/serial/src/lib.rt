@@ -1,8 +1,9 @@
 // Sequence numbers and octet counts, kept apart: place minus place is a count, place plus count is a place, and nothing
 // adds two places.
 ghost use mathlib.Core.Path.{_≡_};
-ghost use Rattle.serial.specs.Ring.{standing};
-ghost use Rattle.serial.specs.Serial.{sameSeq, seqPlus, seqBack, seqMinus, further, larger, atMost, within};
+ghost use Prim.Native.Nat.{_+_, _^_};
+ghost use Rattle.serial.specs.Ring.{nearest};
+ghost use Rattle.serial.specs.Serial.{sameSeq, seqPlus, seqBack, seqMinus, further, larger, sameCount, oneTo, atMost, within};
 use std::num::wrapping_add_u32;
 use std::num::wrapping_sub_u32;
 
@@ -40,7 +41,7 @@ impl SeqNum {
         OctetCount(wrapping_sub_u32(self.0, other.0))
     }
 
-    // The further of a and b on the line, where each stands at the whole number nearest to this place's.
+    // The further of a and b on the unwrapped line, where each stands at the whole number nearest this place's.
     pub fn further(self, a: SeqNum, b: SeqNum) -> SeqNum
         ensures { λ r. ⌜ r ≡ further self a b ⌝ }
     {
@@ -53,9 +54,9 @@ impl SeqNum {
     }
 }
 
-// Where x stands seen from base, counted from 2^31 below base.
+// Where x stands on the line, counted from half a turn below base.
 fn standing(base: SeqNum, x: SeqNum) -> u32
-    ensures { λ r. ⌜ r ≡ standing (base .0) (x .0) ⌝ }
+    ensures { λ r. ⌜ nearest (base .0 + 2 ^ 32) (x .0) ≡ base .0 + 2 ^ 31 + r ⌝ }
 {
     wrapping_add_u32(wrapping_sub_u32(x.0, base.0), 2147483648)
 }
@@ -68,6 +69,20 @@ impl OctetCount {
             return other;
         }
         self
+    }
+
+    // Whether this is that count.
+    pub fn is(self, other: OctetCount) -> bool
+        ensures { λ r. ⌜ r ≡ sameCount self other ⌝ }
+    {
+        self.0 == other.0
+    }
+
+    // Whether this count is from 1 to limit: 0 less 1 wraps to the largest number, which is below no limit.
+    pub fn one_to(self, limit: OctetCount) -> bool
+        ensures { λ r. ⌜ r ≡ oneTo self limit ⌝ }
+    {
+        wrapping_sub_u32(self.0, 1) < limit.0
     }
 
     pub fn at_most(self, limit: OctetCount) -> bool

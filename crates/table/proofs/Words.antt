@@ -6,14 +6,15 @@ use mathlib.Core.Bool.{Bool, true, false, _&&_, and-true, and-false, and-assoc, 
 use mathlib.Core.Logic.{_⊎_, inl, inr, ⊎-elim}
 use native.Mathlib.Omega.{arith}
 use lib.ListN.{getD}
-use borrow.Author.Tests.{lt-ltb, le-ltb, ltb-true, leb-true, eqb-true, le-leb, lt-leb, eq-eqb, ne-eqb}
+use borrow.Author.Tests.{lt-ltb, le-ltb, ltb-true, leb-true, eqb-true, le-leb, lt-leb, eq-eqb}
 use Rattle.choice.specs.Choice.{_<ᵇ_, _≤ᵇ_, _=ᵇ_}
 use Rattle.choice.proofs.Choice.{if-=, if-=-not, if-≤, if-≤-not}
 use Rattle.choice.proofs.Tests.{lt-or-ge, &&-true}
 use Rattle.octets.specs.BigEndian.{bigEndian}
 use Rattle.octets.specs.LittleEndian.{littleEndian, FourOctets}
 use Rattle.octets.proofs.LittleEndian.{octets-of-word}
-use Rattle.serial.specs.Serial.{seqMinus}
+use Rattle.serial.specs.Serial.{sameSeq, seqMinus, sameCount, oneTo, atMost}
+use Rattle.connection.specs.Ends.{count, seqNum}
 use Rattle.connection.specs.Sound.{soundFins, soundEnd, soundUnanswered, soundConnection}
 use Rattle.connection.specs.Stages.{longestLife}
 use Rattle.connection.specs.declared.End.{End}
@@ -172,9 +173,9 @@ module _ (t : List ℕ) (clock at w : ℕ) (small : FourOctets t at) (is : w ≡
 
 -- Its numbers
 
-pub end-by : (e : End) → 1 ≤ e .win .0 → e .win .0 ≤ 65535 → seqMinus (e .edge) (e .end) .0 ≤ 65535 → soundEnd e ≡ true
+pub end-by-ranges : (e : End) → soundEnd e ≡ (oneTo (e .win) (count 65535) && atMost (seqMinus (e .edge) (e .end)) (count 65535))
 unfolding soundEnd
-end-by e a b c = both _ _ (le-leb _ _ a) (both _ _ (le-leb _ _ b) (le-leb _ _ c))
+end-by-ranges e = sym (and-assoc (1 ≤ᵇ e .win .0) (e .win .0 ≤ᵇ 65535) (seqMinus (e .edge) (e .end) .0 ≤ᵇ 65535))
 
 pub end-known : (e : End) → soundEnd e ≡ true → (1 ≤ e .win .0) × (e .win .0 ≤ 65535) × (seqMinus (e .edge) (e .end) .0 ≤ 65535)
 unfolding soundEnd
@@ -184,17 +185,21 @@ end-known e h =
     (leb-true 1 _ (p .0), leb-true _ 65535 (q .0), leb-true _ 65535 (q .1))
 
 module _ (t : List ℕ) (clock at : ℕ) (opener answerer : End) where
-  pub numbers-by : bigEndian 8 t (at + 16) ≤ clock + longestLife → soundEnd opener ≡ true → soundEnd answerer ≡ true → zerosAt t (at + 48) 16 ≡ true → soundNumbers t clock at opener answerer ≡ true
+  pub numbers-not-by-deadline : clock + longestLife < bigEndian 8 t (at + 16) → soundNumbers t clock at opener answerer ≡ false
   unfolding soundNumbers
-  numbers-by a b c d = rw (le-leb _ _ a, b, c, d)
+  numbers-not-by-deadline late = rw (lt-leb _ _ late)
 
-  pub numbers-known : soundNumbers t clock at opener answerer ≡ true → (bigEndian 8 t (at + 16) ≤ clock + longestLife) × (soundEnd opener ≡ true) × (soundEnd answerer ≡ true) × (zerosAt t (at + 48) 16 ≡ true)
+  pub numbers-not-by-opener : soundEnd opener ≡ false → soundNumbers t clock at opener answerer ≡ false
   unfolding soundNumbers
-  numbers-known h =
-      let p = &&-true (bigEndian 8 t (at + 16) ≤ᵇ clock + longestLife) _ h in
-      let q = &&-true (soundEnd opener) _ (p .1) in
-      let r = &&-true (soundEnd answerer) (zerosAt t (at + 48) 16) (q .1) in
-      (leb-true _ _ (p .0), q .0, r .0, r .1)
+  numbers-not-by-opener e = simp (e, and-false)
+
+  pub numbers-not-by-answerer : soundEnd answerer ≡ false → soundNumbers t clock at opener answerer ≡ false
+  unfolding soundNumbers
+  numbers-not-by-answerer e = simp (e, and-false)
+
+  pub numbers-by-zeros : bigEndian 8 t (at + 16) ≤ clock + longestLife → soundEnd opener ≡ true → soundEnd answerer ≡ true → soundNumbers t clock at opener answerer ≡ zerosAt t (at + 48) 16
+  unfolding soundNumbers
+  numbers-by-zeros due o a = rw (le-leb _ _ due, o, a)
 
 -- Stage 1
 
@@ -203,17 +208,17 @@ module _ (o a : End) where
   unfolding soundUnanswered
   unanswered-1 = if-= {a = 1} {b = 1} _ true refl
 
-  pub unanswered-not-by-edge : (o .edge .0 ≡ o .end .0 → ⊥) → soundUnanswered 1 o a ≡ false
-  unanswered-not-by-edge h = unanswered-1 ∙ rw (ne-eqb _ _ h)
+  pub unanswered-not-by-edge : sameSeq (o .edge) (o .end) ≡ false → soundUnanswered 1 o a ≡ false
+  unanswered-not-by-edge h = unanswered-1 ∙ rw h
 
-  pub unanswered-not-by-other-end : (a .end .0 ≡ 0 → ⊥) → soundUnanswered 1 o a ≡ false
-  unanswered-not-by-other-end h = unanswered-1 ∙ rw (ne-eqb _ _ h) (and-false (o .edge .0 =ᵇ o .end .0))
+  pub unanswered-not-by-other-end : sameSeq (a .end) (seqNum 0) ≡ false → soundUnanswered 1 o a ≡ false
+  unanswered-not-by-other-end h = unanswered-1 ∙ simp (h, and-false)
 
-  pub unanswered-not-by-other-edge : (a .edge .0 ≡ 0 → ⊥) → soundUnanswered 1 o a ≡ false
-  unanswered-not-by-other-edge h = unanswered-1 ∙ simp (ne-eqb (a .edge .0) 0 h, and-false)
+  pub unanswered-not-by-other-edge : sameSeq (a .edge) (seqNum 0) ≡ false → soundUnanswered 1 o a ≡ false
+  unanswered-not-by-other-edge h = unanswered-1 ∙ simp (h, and-false)
 
-  pub unanswered-by-other-win : o .edge .0 ≡ o .end .0 → a .end .0 ≡ 0 → a .edge .0 ≡ 0 → soundUnanswered 1 o a ≡ (a .win .0 =ᵇ 1)
-  unanswered-by-other-win p q r = unanswered-1 ∙ rw (eq-eqb _ _ p, eq-eqb _ _ q, eq-eqb _ _ r)
+  pub unanswered-by-other-win : sameSeq (o .edge) (o .end) ≡ true → sameSeq (a .end) (seqNum 0) ≡ true → sameSeq (a .edge) (seqNum 0) ≡ true → soundUnanswered 1 o a ≡ sameCount (a .win) (count 1)
+  unanswered-by-other-win p q r = unanswered-1 ∙ rw (p, q, r)
 
 -- The table
 

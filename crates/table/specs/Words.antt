@@ -1,4 +1,4 @@
--- Soundness as the scan asks for it: an entry's octets in whole words, few tests an entry. For the proofs only: `soundAt` is the definition.
+-- Soundness as the scan asks for it: an entry's octets in whole words. For the proofs only: `soundAt` is the definition.
 use Prim.Native.Nat.{ℕ, _+_, _/_, _%_}
 use mathlib.Core.Bool.{Bool, _&&_, _||_}
 use mathlib.Core.List.{List}

@@ -19,6 +19,8 @@ use octets::read16;
 use octets::read32;
 use octets::read64;
 use octets::write64;
+use serial::OctetCount;
+use serial::SeqNum;
 
 // What a search over places gives.
 pub enum Found {
@@ -28,9 +30,9 @@ pub enum Found {
 
 // Octets in whole words
 
-// Several tests in one: above both numbers, and zero or under 65,536 where both are.
+// Two zero tests in one: 0 exactly where both numbers are.
 fn either(a: u64, b: u64) -> u64
-    ensures { λ r. ⌜ (a ≤ r) × (b ≤ r) × (a < 65536 → b < 65536 → r < 65536) × (a ≡ 0 → b ≡ 0 → r ≡ 0) ⌝ }
+    ensures { λ r. ⌜ (a ≤ r) × (b ≤ r) × (a ≡ 0 → b ≡ 0 → r ≡ 0) ⌝ }
 {
     a | b
 }
@@ -228,68 +230,63 @@ pub fn vacant(table: &[u8], places: usize, clock: u64) -> Found
 
 // Soundness
 
-// Stage, side, FIN bits and zero as one word; 1 to 3 without FIN bits are the usual ones.
+// Stage, side, FIN bits and zero as one word. 1 to 3 are the usual ones: a `match` of their own, since one tests its ranges last.
 fn sound_word(w: u32) -> bool
     ensures { λ r. ⌜ r ≡ soundWord w ⌝ }
 {
     let k = w % 256 + w / 512 * 512;
-    if std::num::wrapping_sub_u32(k, 1) < 3 {
-        return true;
-    }
     match k {
-        65540 => true,
-        131076 => true,
-        196613 => true,
-        _ => false,
+        1..=3 => true,
+        _ => match k {
+            65540 => true,
+            131076 => true,
+            196613 => true,
+            _ => false,
+        },
     }
 }
 
-// Under 65,536 exactly where the record is sound: so are the window, the window less 1, and the edge less the end.
-fn odd_end(end: End) -> u64
-    ensures { λ r. ⌜ (r < 65536 → soundEnd end ≡ true) × (soundEnd end ≡ true → r < 65536) ⌝ }
+// Win from 1 to 65,535, and edge at most 65,535 ahead of end.
+fn sound_end(end: End) -> bool
+    ensures { λ r. ⌜ r ≡ soundEnd end ⌝ }
 {
-    let ahead = end.edge.minus(end.end);
-    let win = end.win.0;
-    either(
-        ahead.0 as u64,
-        either(win as u64, std::num::wrapping_sub_u32(win, 1) as u64),
-    )
-}
-
-// 0 exactly where a deadline is no later than it may be.
-fn late(most: u64, deadline: u64) -> u64
-    ensures { λ r. ⌜ (r ≡ 0 → deadline ≤ most) × (deadline ≤ most → r ≡ 0) ⌝ }
-{
-    if most < deadline {
-        return 1;
+    if !end.win.one_to(OctetCount(65_535)) {
+        return false;
     }
-    0
+    end.edge.minus(end.end).at_most(OctetCount(65_535))
 }
 
-// Deadline, both records and the last 16 zeros, by one test.
+// Deadline, both records and the last 16 zeros.
 fn sound_numbers(table: &[u8], clock: u64, at: usize, opener: End, answerer: End) -> bool
     requires { ⌜ (at + 64 ≤ length (now table)) × (clock < 2 ^ 48) ⌝ }
     ensures { λ r. ⌜ r ≡ soundNumbers (now (table .entry)) clock at opener answerer ⌝ }
 {
-    let odd = either(odd_end(opener), odd_end(answerer)) / 65536;
-    let beyond = late(clock + 432_000_000, read64(table, at + 16));
-    either(either(any16(table, at + 48), beyond), odd) == 0
+    if clock + 432_000_000 < read64(table, at + 16) {
+        return false;
+    }
+    if !sound_end(opener) {
+        return false;
+    }
+    if !sound_end(answerer) {
+        return false;
+    }
+    any16(table, at + 48) == 0
 }
 
 // In stage 1 the opener's edge equals its end and the answerer has 0, 0, 1.
 fn sound_unanswered(opener: End, answerer: End) -> bool
     ensures { λ r. ⌜ r ≡ soundUnanswered 1 opener answerer ⌝ }
 {
-    if opener.edge.0 != opener.end.0 {
+    if !opener.edge.is(opener.end) {
         return false;
     }
-    if answerer.end.0 != 0 {
+    if !answerer.end.is(SeqNum(0)) {
         return false;
     }
-    if answerer.edge.0 != 0 {
+    if !answerer.edge.is(SeqNum(0)) {
         return false;
     }
-    answerer.win.0 == 1
+    answerer.win.is(OctetCount(1))
 }
 
 // The entry at an offset, by the header clock: free, or sound and in use.

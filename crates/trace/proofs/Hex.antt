@@ -12,7 +12,7 @@ use lib.Seq.{getD-take, getD-drop, drop-cons, drop-at, length-take-le, take-add}
 use borrow.Author.Tests.{lt-ltb, le-ltb}
 use Rattle.choice.specs.Choice.{if_then_else_}
 use Rattle.choice.proofs.Choice.{if-true, if-false}
-use Rattle.choice.proofs.Tests.{true-or-false, lt-or-ge, ||-true, between, not-between-below, not-between-above, between-true}
+use Rattle.choice.proofs.Tests.{true-or-false, lt-or-ge, ||-true, true-between, not-between-below, not-between-above, between-true}
 use Rattle.octets.specs.Digits.{tabulate, number, digits}
 use Rattle.octets.proofs.Digits.{number-cong, number-digits, digits-number, number<base^n, tabulate-cong, map-tabulate, tabulate-getD}
 use Rattle.octets.proofs.Text.{length-map-digits, map-digits-suc}
@@ -23,13 +23,13 @@ use Rattle.trace.specs.Hex.{isDecimal, isLetter, isHex, hexValue, hexDig
 pub digit-decimal : (b : ℕ) → 48 ≤ b → b ≤ 57 → (isHex b ≡ true) × (hexValue b ≡ b - 48)
 unfolding isDecimal isHex hexValue
 digit-decimal b low high =
-    let d = between 48 57 b low high in (rw d, if-true _ _ _ d)
+    let d = true-between 48 57 b low high in (rw d, if-true _ _ _ d)
 
 pub digit-letter : (b : ℕ) → 97 ≤ b → b ≤ 102 → (isHex b ≡ true) × (hexValue b ≡ b - 87)
 unfolding isDecimal isLetter isHex hexValue
 digit-letter b low high =
     let d = not-between-above 48 57 b (omega arith) in
-    let l = between 97 102 b low high in (rw (d, l), if-false _ _ _ d ∙ if-true _ _ _ l)
+    let l = true-between 97 102 b low high in (rw (d, l), if-false _ _ _ d ∙ if-true _ _ _ l)
 
 no-digit : (b : ℕ) → isDecimal b ≡ false → isLetter b ≡ false → (isHex b ≡ false) × (hexValue b ≡ 0)
 unfolding isHex hexValue

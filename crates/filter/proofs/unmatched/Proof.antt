@@ -14,12 +14,6 @@ blocked-requires c κs = search needs
 returns : tie.Need-returns
 returns c = c .blocked .ensures ∙ ap decided (sym (unmatched-not-from-side-0 _ _ _ _ _ (c .before .if1 .taken)))
 
-blocked-requires-2 : tie.Need-blocked-requires-2
-blocked-requires-2 c κs = search needs
-
-returns-2 : tie.Need-returns-2
-returns-2 c = c .blocked2 .ensures ∙ ap decided (sym (unmatched-not-syn _ _ _ _ _ (c .before .if2 .taken)))
-
 vacant-requires : tie.Need-vacant-requires
 vacant-requires c κs = search needs
 
@@ -35,27 +29,35 @@ passed-requires c κs = search needs
 enum-told : tie.Need-enum-told
 enum-told c = search needs
 
+blocked-requires-2 : tie.Need-blocked-requires-2
+blocked-requires-2 c κs = search needs
+
 blocked-requires-3 : tie.Need-blocked-requires-3
 blocked-requires-3 c κs = search needs
 
-returns-3 : tie.Need-returns-3
-returns-3 c =
+returns-2 : tie.Need-returns-2
+returns-2 c =
     let k = c .before .before .before .before .before in
-    let z = k .before .before .before .before .before in
+    let s = k .before .before in
+    let z = s .before .before in
     let a = z .args in
     let h = ap (firstFrom (vacantAt (a .table .now) (a .clock)) 0) (sym (z .pre .0)) ∙ sym (k .vacant .ensures) ∙ c .before .before .before .found .given .1 in
     c .passed .ensures
     ∙ ap (λ (x : Entry). decided (Passed (c .before .before .before .found .given .0 .0) (a .clock) x)) (c .before .opening .ensures)
-    ∙ ap decided (sym (unmatched-syn (a .table .now) (a .clock) (a .side) (a .flow) (a .segment) (k .before .before .before .if1 .left) (k .before .if2 .left) _ h))
+    ∙ ap decided (sym (unmatched-syn (a .table .now) (a .clock) (a .side) (a .flow) (a .segment) (s .if1 .left) (k .before .match .keys1) _ h))
 
-returns-4 : tie.Need-returns-4
-returns-4 c =
+returns-3 : tie.Need-returns-3
+returns-3 c =
     let k = c .before .before .before in
-    let z = k .before .before .before .before .before in
+    let s = k .before .before in
+    let z = s .before .before in
     let a = z .args in
     let h = ap (firstFrom (vacantAt (a .table .now) (a .clock)) 0) (sym (z .pre .0)) ∙ sym (k .vacant .ensures) ∙ c .before .enum-told .given .1 in
-    c .blocked3 .ensures
-    ∙ ap decided (sym (unmatched-syn (a .table .now) (a .clock) (a .side) (a .flow) (a .segment) (k .before .before .before .if1 .left) (k .before .if2 .left) _ h))
+    c .blocked2 .ensures
+    ∙ ap decided (sym (unmatched-syn (a .table .now) (a .clock) (a .side) (a .flow) (a .segment) (s .if1 .left) (k .before .match .keys1) _ h))
+
+returns-4 : tie.Need-returns-4
+returns-4 c = c .blocked3 .ensures ∙ ap decided (sym (unmatched-not-syn _ _ _ _ _ (c .before .match .rest .1)))
 
 pub unmatched-spec : {M : Type 1} → statement M
 unmatched-spec =
@@ -63,13 +65,13 @@ unmatched-spec =
     (tie.spec
     blocked-requires
     returns
-    blocked-requires-2
-    returns-2
     vacant-requires
     enum-known-found
     opening-requires
     passed-requires
     enum-told
+    blocked-requires-2
     blocked-requires-3
+    returns-2
     returns-3
     returns-4)

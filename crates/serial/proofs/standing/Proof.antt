@@ -1,6 +1,5 @@
-use mathlib.Core.Path.{_∙_}
 use native.Mathlib.Omega.{arith}
-use Rattle.serial.proofs.Ring.{standing-unique}
+use Rattle.serial.proofs.Ring.{nearest-counted}
 use borrow.Author.Needs.{needs}
 use Rattle.serial.proofs.standing.Statement.{statement}
 use Rattle.serial.proofs.standing.Tie as tie
@@ -13,7 +12,8 @@ wrapping-add-u32-requires c κs = search needs
 
 returns : tie.Need-returns
 returns c =
-    c .wrapping-add-u32 .ensures ∙ standing-unique _ _ _ (omega arith) (omega arith) (c .before .wrapping-sub-u32 .ensures)
+    let a = c .before .before .args in
+    rw (c .wrapping-add-u32 .ensures) (nearest-counted (a .base .0) (a .x .0) _ (omega arith) (omega arith) (c .before .wrapping-sub-u32 .ensures))
 
 pub standing-spec : {M : Type 1} → statement M
 standing-spec = tie.close (tie.spec wrapping-sub-u32-requires wrapping-add-u32-requires returns)

@@ -52,7 +52,7 @@ returns-2 c =
       λ h. let p = zeros-part t 8 48 8 h in
           let q = zeros-part t 16 32 16 (p .1) in
           let r = zeros-part t 16 16 32 (q .1) in
-          o3 .3 (x .1 (p .0)) (o2 .3 (y .1 (q .0)) (o .3 (z .1 (r .0)) (w .1 (r .1)))),
+          o3 .2 (x .1 (p .0)) (o2 .2 (y .1 (q .0)) (o .2 (z .1 (r .0)) (w .1 (r .1)))),
     )
     ∙ sym (header-by-rest t (omega arith))
 

@@ -1,16 +1,24 @@
-use mathlib.Core.Path.{sym, _∙_}
-use Rattle.choice.proofs.Choice.{if-=, if-=-not, if-≠, if-≠-not}
+use mathlib.Core.Path.{_≡_, sym, _∙_}
+use mathlib.Core.Bool.{false}
+use Rattle.choice.proofs.Choice.{if-true, if-false, if-=, if-=-not, if-≠, if-≠-not}
+use Rattle.segment.specs.Flags.{isReset}
 use Rattle.connection.specs.Decision.{passed}
 use borrow.Author.Needs.{needs}
 use Rattle.connection.proofs.Connection.passed.Statement.{statement}
 use Rattle.connection.proofs.Connection.passed.Tie as tie
+
+no-reset : (c : tie.Else1) → isReset (c .before .before .args .segment .flags) ≡ false
+no-reset c = sym (c .before .has-rst .ensures) ∙ c .if1 .left
+
+has-rst-requires : tie.Need-has-rst-requires
+has-rst-requires c κs = search needs
 
 no-connection-requires : tie.Need-no-connection-requires
 no-connection-requires c κs = search needs
 
 returns : tie.Need-returns
 unfolding passed
-returns c = c .no-connection .ensures ∙ sym (if-= _ _ (c .before .if1 .taken))
+returns c = c .no-connection .ensures ∙ sym (if-true _ _ _ (sym (c .before .before .has-rst .ensures) ∙ c .before .if1 .taken))
 
 repeated-requires : tie.Need-repeated-requires
 repeated-requires c κs = search needs
@@ -26,25 +34,26 @@ unfolding passed
 returns-2 c =
     let k = c .before in
     let m = k .before in
-    c .repeated .ensures ∙ sym (if-=-not _ _ (m .before .if1 .left) ∙ if-≠-not _ _ (m .match .keys1) ∙ if-= _ _ (k .match2 .keys1))
+    c .repeated .ensures ∙ sym (if-false _ _ _ (no-reset (m .before)) ∙ if-≠-not _ _ (m .match .keys1) ∙ if-= _ _ (k .match2 .keys1))
 
 returns-3 : tie.Need-returns-3
 unfolding passed
 returns-3 c =
     let k = c .before in
     let m = k .before in
-    c .answered .ensures ∙ sym (if-=-not _ _ (m .before .if1 .left) ∙ if-≠-not _ _ (m .match .keys1) ∙ if-=-not _ _ (k .match2 .rest .1))
+    c .answered .ensures ∙ sym (if-false _ _ _ (no-reset (m .before)) ∙ if-≠-not _ _ (m .match .keys1) ∙ if-=-not _ _ (k .match2 .rest .1))
 
 returns-4 : tie.Need-returns-4
 unfolding passed
 returns-4 c =
     let k = c .before in
-    c .carried .ensures ∙ sym (if-=-not _ _ (k .before .if1 .left) ∙ if-≠ _ _ (k .match .rest .1))
+    c .carried .ensures ∙ sym (if-false _ _ _ (no-reset (k .before)) ∙ if-≠ _ _ (k .match .rest .1))
 
 pub passed-spec : {M : Type 1} → statement M
 passed-spec =
     tie.close
     (tie.spec
+    has-rst-requires
     no-connection-requires
     returns
     repeated-requires

@@ -7,8 +7,8 @@ use Rattle.connection.proofs.Connection.repeated.Tie as tie
 element-copy-out-opener : tie.Need-element-copy-out-opener
 element-copy-out-opener c = search needs
 
-larger-requires : tie.Need-larger-requires
-larger-requires c κs = search needs
+widened-requires : tie.Need-widened-requires
+widened-requires c κs = search needs
 
 array-set-from-ends : tie.Need-array-set-from-ends
 array-set-from-ends c = search needs
@@ -28,7 +28,7 @@ repeated-spec =
     tie.close
     (tie.spec
     element-copy-out-opener
-    larger-requires
+    widened-requires
     array-set-from-ends
     life-requires
     add-deadline

@@ -1,8 +1,11 @@
 -- Both records are read before either is stored.
 use Prim.Native.Nat.{_-_}
-use mathlib.Core.Path.{sym, ap, _∙_}
+use mathlib.Core.Path.{_≡_, sym, ap, _∙_}
 use lib.ListN.{set}
-use Rattle.choice.proofs.Choice.{if-=, if-=-not}
+use borrow.Author.Tests.{not-true, not-false}
+use Rattle.choice.specs.Choice.{_=ᵇ_}
+use Rattle.choice.proofs.Choice.{if-true, if-false}
+use Rattle.segment.specs.Flags.{ack}
 use Rattle.connection.specs.Ends.{sender, sent, granted, written}
 use borrow.Author.Needs.{needs}
 use Rattle.connection.proofs.Connection.written.Statement.{statement}
@@ -10,6 +13,13 @@ use Rattle.connection.proofs.Connection.written.Tie as tie
 
 abbrev start : tie.After-sent → tie.Start
 start c = c .before .before .before .before .before
+
+-- whether it acknowledges, as it was asked before the stores
+acks : (c : tie.After-sent) → (ack (start c .args .segment .flags) =ᵇ 1) ≡ c .before .before .before .before .has-ack .result
+acks c = sym (c .before .before .before .before .has-ack .ensures)
+
+has-ack-requires : tie.Need-has-ack-requires
+has-ack-requires c κs = search needs
 
 mul-from : tie.Need-mul-from
 mul-from c = search needs
@@ -39,7 +49,7 @@ returns : tie.Need-returns
 unfolding written
 returns c =
     let a = start (c .before) .args in
-    ap (set (a .t1 .ends) (a .sender)) (c .before .sent .ensures) ∙ sym (if-=-not _ _ (c .if1 .taken))
+    ap (set (a .t1 .ends) (a .sender)) (c .before .sent .ensures) ∙ sym (if-false _ _ _ (acks (c .before) ∙ not-true _ (c .if1 .taken)))
 
 granted-requires : tie.Need-granted-requires
 granted-requires c κs = search needs
@@ -60,12 +70,13 @@ returns-2 c =
     let s = start (k .before) in
     let a = s .args in
     (λ i. set (set (a .t1 .ends) (a .sender) (k .before .sent .ensures i)) (1 - a .sender) (c .granted .ensures i))
-    ∙ sym (if-= _ _ (k .if1 .left))
+    ∙ sym (if-true _ _ _ (acks (k .before) ∙ not-false _ (k .if1 .left)))
 
 pub written-spec : {M : Type 1} → statement M
 written-spec =
     tie.close
     (tie.spec
+    has-ack-requires
     mul-from
     element-copy-out-from
     sub-to

@@ -2,6 +2,9 @@ use borrow.Author.Needs.{needs}
 use Rattle.connection.proofs.End.opening.Statement.{statement}
 use Rattle.connection.proofs.End.opening.Tie as tie
 
+effective-window-requires : tie.Need-effective-window-requires
+effective-window-requires c κs = search needs
+
 plus-requires : tie.Need-plus-requires
 plus-requires c κs = search needs
 
@@ -12,4 +15,4 @@ returns : tie.Need-returns
 returns c = cc
 
 pub opening-spec : {M : Type 1} → statement M
-opening-spec = tie.close (tie.spec plus-requires larger-requires returns)
+opening-spec = tie.close (tie.spec effective-window-requires plus-requires larger-requires returns)

@@ -1,6 +1,6 @@
 use mathlib.Core.Path.{sym}
-use Rattle.choice.proofs.Choice.{if-<, if-<-not}
-use Rattle.serial.specs.Serial.{further}
+use native.Mathlib.Omega.{arith}
+use Rattle.serial.proofs.Serial.{further-is}
 use borrow.Author.Needs.{needs}
 use Rattle.serial.proofs.SeqNum.further.Statement.{statement}
 use Rattle.serial.proofs.SeqNum.further.Tie as tie
@@ -12,12 +12,10 @@ standing-requires-2 : tie.Need-standing-requires-2
 standing-requires-2 c κs = search needs
 
 returns : tie.Need-returns
-unfolding further
-returns c = sym (if-< _ _ (rw (c .before .before .standing .ensures, c .before .standing2 .ensures) at (c .if1 .taken)))
+returns c = sym (further-is _ _ _ _ (omega arith) (omega arith))
 
 returns-2 : tie.Need-returns-2
-unfolding further
-returns-2 c = sym (if-<-not _ _ (rw (c .before .before .standing .ensures, c .before .standing2 .ensures) at (c .if1 .left)))
+returns-2 c = sym (further-is _ _ _ _ (omega arith) (omega arith))
 
 pub further-spec : {M : Type 1} → statement M
 further-spec = tie.close (tie.spec standing-requires standing-requires-2 returns returns-2)
