@@ -43,9 +43,9 @@ fn octet_count(line: &[u8], at: usize) -> OctetCount {
 }
 
 fn clock(line: &[u8], at: usize) -> u64
-    ensures { λ r. ⌜ r < 281474976710656 ⌝ }
+    ensures { λ r. ⌜ r < 281_474_976_710_656 ⌝ }
 {
-    script::decimal_field(line, at) % 281474976710656
+    script::decimal_field(line, at) % 281_474_976_710_656
 }
 
 // The sender of a g line: 0 the opener, 1 the answerer.

@@ -1,5 +1,5 @@
 -- Places with the same bytes have the same entry and the same zero bytes.
-use Prim.Native.Nat.{ℕ, _+_, _≤_}
+use Prim.Native.Nat.{ℕ, _+_, _≤_, _<_}
 use mathlib.Core.Path.{_≡_, refl, sym, ap, _∙_}
 use mathlib.Core.List.{List, [], _∷_}
 use native.Mathlib.Omega.{arith}
@@ -9,7 +9,12 @@ use Rattle.octets.specs.BigEndian.{bigEndian}
 use Rattle.octets.proofs.Agree.{Agree, part-agree}
 use Rattle.octets.proofs.BigEndian.{bigEndian-agree}
 use Rattle.connection.specs.Ends.{count, seqNum}
-use Rattle.entry.specs.Layout.{entrySize, endAt, connectionAt, entryAt, ZeroBytes}
+use Rattle.entry.specs.Layout.{entrySize, endAt, connectionAt, entryAt}
+
+-- zero bytes zero: the one after the FIN bits, and the last 16
+pub record ZeroBytes (t : List ℕ) (at : ℕ) : Type 0 where
+  pub after-fins : getD t (at + 3) 0 ≡ 0
+  pub last : (i : ℕ) → i < 16 → getD t (at + 48 + i) 0 ≡ 0
 
 module _ (l : List ℕ) (at : ℕ) (m : List ℕ) (there : ℕ) (same : Agree l at m there entrySize) where
   number-agree : (n k p q : ℕ) → at + k ≡ p → there + k ≡ q → k + n ≤ entrySize → bigEndian n l p ≡ bigEndian n m q

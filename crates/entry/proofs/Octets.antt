@@ -13,10 +13,11 @@ use Rattle.octets.proofs.Octets.{Bytes, bytes-[], bytes-∷, bytes-++, bytes-oc
 use Rattle.connection.specs.Ends.{sender}
 use Rattle.connection.specs.declared.Connection.{Connection}
 use Rattle.connection.specs.declared.End.{End}
-use Rattle.entry.specs.Layout.{endAt, connectionAt, entryAt, endBytes, marksBytes, endpointsBytes, numbersBytes, entryBytes, ZeroBytes}
+use Rattle.entry.specs.Layout.{endAt, connectionAt, entryAt, endBytes, marksBytes, endpointsBytes, numbersBytes, entryBytes}
 use Rattle.entry.specs.Typed.{TypedEnd, Typed}
 use Rattle.entry.specs.declared.Endpoint.{Endpoint}
 use Rattle.entry.specs.declared.Entry.{Entry}
+use Rattle.entry.proofs.Agree.{ZeroBytes}
 
 -- Read from octets
 

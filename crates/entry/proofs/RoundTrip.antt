@@ -1,4 +1,4 @@
--- What is stored is read back, and a sound entry's bytes are those that it is stored as.
+-- What is stored is read back, and bytes whose zero bytes are zero are those that the entry read from them is stored as.
 use Prim.Native.Nat.{ℕ, _+_, _^_, _≤_, _<_}
 use mathlib.Core.Path.{_≡_, refl, sym, ap, _∙_}
 use mathlib.Core.List.{List, [], _∷_, _++_}
@@ -13,11 +13,12 @@ use Rattle.octets.proofs.Agree.{overwrite-agree}
 use Rattle.octets.proofs.BigEndian.{bigEndian-octetsOf, octetsOf-bigEndian}
 use Rattle.connection.specs.Ends.{sender, seqNum, count}
 use Rattle.connection.specs.declared.End.{End}
-use Rattle.entry.specs.Layout.{entrySize, endpointAt, endAt, connectionAt, entryAt, endBytes, marksBytes, endpointsBytes, numbersBytes, entryBytes, ZeroBytes}
+use Rattle.entry.specs.Layout.{entrySize, endpointAt, endAt, connectionAt, entryAt, endBytes, marksBytes, endpointsBytes, numbersBytes, entryBytes}
+use Rattle.entry.specs.RoundTrip.{StoredIsRead}
 use Rattle.entry.specs.Typed.{TypedEnd, Typed}
 use Rattle.entry.specs.declared.Entry.{Entry}
 use Rattle.entry.proofs.Sizes.{length-entryBytes}
-use Rattle.entry.proofs.Agree.{entryAt-agree}
+use Rattle.entry.proofs.Agree.{ZeroBytes, entryAt-agree}
 
 -- Reading what was written
 
@@ -68,7 +69,7 @@ module _ (e : Entry) (typed : Typed e) where
       }
 
 -- what is stored is read back
-pub load-stored : (t : List ℕ) (at : ℕ) (e : Entry) → at + entrySize ≤ length t → Typed e → entryAt (overwrite t at (entryBytes e)) at ≡ e
+pub load-stored : StoredIsRead
 load-stored t at e fits typed =
     entryAt-agree (overwrite t at (entryBytes e)) at (entryBytes e) 0 (overwrite-agree t at (entryBytes e) entrySize (length-entryBytes e) fits)
     ∙ entry-back e typed
@@ -92,7 +93,7 @@ end-part t at fits octets =
     let win = octetsOf-bigEndian 4 t (at + 8) (omega arith) octets in
     part-append t 4 8 at (at + 4) _ _ refl end (part-append t 4 4 (at + 4) (at + 8) _ _ (omega arith) edge win)
 
--- every sound entry re-encodes to its bytes
+-- an entry re-encodes to its bytes, given that its zero bytes are zero
 module _ (t : List ℕ) (at : ℕ) (fits : at + entrySize ≤ length t) (octets : Octets t) where
   numbers-part : numbersBytes (connectionAt t at) ≡ take 32 (drop (at + 16) t)
   unfolding numbersBytes connectionAt

@@ -1,6 +1,5 @@
 -- The table in bytes (document 01, "The table"): a header of 64 bytes, then entries of 64.
-use Prim.Native.Nat.{ℕ, _+_, _*_, _<_}
-use mathlib.Core.Path.{_≡_}
+use Prim.Native.Nat.{ℕ, _+_, _*_}
 use mathlib.Core.List.{List, [], _∷_, _++_}
 use lib.ListN.{getD, replicate}
 use Rattle.octets.specs.BigEndian.{bigEndian, octetsOf}
@@ -68,8 +67,3 @@ entryAt t at = record {
   answerer = endpointAt t (at + 8) (at + 14);
   connection = connectionAt t at;
 }
-
--- zero bytes zero: the one after the FIN bits, and the last 16
-pub record ZeroBytes (t : List ℕ) (at : ℕ) : Type 0 where
-  pub after-fins : getD t (at + 3) 0 ≡ 0
-  pub last : (i : ℕ) → i < 16 → getD t (at + 48 + i) 0 ≡ 0

@@ -24,7 +24,7 @@ use Rattle.table.specs.declared.Found.the-variants.{At, Nothing}
 use Rattle.table.proofs.Places.{found-passes}
 use Rattle.filter.specs.Call.{placesIn, clockUsed, sourceOf, destinationOf, entryAfter, byVerdict, senderOf, onEntry, openingEntry, onVacant, unmatched, onFound, onSegment, onPacket, outcomeOf, replyOf, tableAfter}
 use Rattle.filter.specs.Outcome.{Outcome, Blocked, Passed}
-use Rattle.filter.specs.Decided.{decided, written, Fits}
+use Rattle.filter.specs.Decision.{decisionOf, written, Fits}
 use Rattle.filter.specs.declared.Decision.{Decision}
 use Rattle.filter.specs.declared.Reply.{Reply}
 use Rattle.filter.proofs.Rows.{legal-length-bounds}
@@ -34,16 +34,16 @@ abbrev pub Within : List ℕ → Outcome → Type 0
 Within t (Blocked n) = (1 ≤ n) × (n ≤ 15)
 Within t (Passed p now e) = (p < 512) × (placeAt p + entrySize ≤ length t)
 
-pub within-fits : (t : List ℕ) (o : Outcome) → Within t o → Fits t (decided o)
+pub within-fits : (t : List ℕ) (o : Outcome) → Within t o → Fits t (decisionOf o)
 within-fits t (Blocked n) h = λ e. absurd (omega (arith, h .0))
 within-fits t (Passed p now e) h = λ _. h .1
 
-pub written≡tableAfter : (t : List ℕ) (o : Outcome) → Within t o → written t (decided o) ≡ tableAfter t o
+pub written≡tableAfter : (t : List ℕ) (o : Outcome) → Within t o → written t (decisionOf o) ≡ tableAfter t o
 unfolding written
 written≡tableAfter t (Blocked n) h = if-=-not _ _ (λ (e : n ≡ 0). absurd (omega (arith, h .0)))
 written≡tableAfter t (Passed p now e) h = if-= {a = 0} {b = 0} _ t refl
 
-pub reply≡replyOf : (o : Outcome) → _≡_ {A = Reply} (record { answer = decided o .answer; place = decided o .place }) (replyOf o)
+pub reply≡replyOf : (o : Outcome) → _≡_ {A = Reply} (record { answer = decisionOf o .answer; place = decisionOf o .place }) (replyOf o)
 reply≡replyOf (Blocked n) = refl
 reply≡replyOf (Passed p now e) = refl
 
@@ -95,7 +95,7 @@ outcome-within side clock t packet =
     (λ legal. if-either (Within t) _ _ _ (omega arith, omega arith)
     (let h = legal-length-bounds _ (not-false _ legal) in packet-within t (h .0) (h .1) (readPacket packet) (clockUsed t clock) side))))
 
-pub decision-fits : (side clock : ℕ) (t packet : List ℕ) (d : Decision) → d ≡ decided (outcomeOf side clock t packet) → Fits t d
+pub decision-fits : (side clock : ℕ) (t packet : List ℕ) (d : Decision) → d ≡ decisionOf (outcomeOf side clock t packet) → Fits t d
 decision-fits side clock t packet d e = rw e (within-fits t (outcomeOf side clock t packet) (outcome-within side clock t packet))
 
 -- an answer is at most 15, and a place at most 65,535

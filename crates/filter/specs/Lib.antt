@@ -1,4 +1,4 @@
 pub mod Outcome
 pub mod Call
-pub mod Decided
+pub mod Decision
 pub mod Ignored

@@ -5,7 +5,7 @@ ghost use lib.ListN.{length};
 ghost use Rattle.entry.specs.Layout.{placeAt};
 ghost use Rattle.packet.specs.Read.{readPacket};
 ghost use Rattle.filter.specs.Call.{legalLength, placesIn, clockUsed, sourceOf, destinationOf, freeEntry, entryWith, senderOf, onEntry, openingEntry, unmatched, onSegment, onPacket, outcomeOf, replyOf, tableAfter};
-ghost use Rattle.filter.specs.Decided.{decided, written, Fits};
+ghost use Rattle.filter.specs.Decision.{decisionOf, written, Fits};
 ghost use Rattle.filter.specs.Outcome.{Blocked, Passed};
 use connection::Connection;
 use connection::End;
@@ -70,7 +70,7 @@ fn free_entry() -> Entry
 
 // Every answer but a pass gives place 65,535.
 fn blocked(answer: u32) -> Decision
-    ensures { λ r. ⌜ r ≡ decided (Blocked answer) ⌝ }
+    ensures { λ r. ⌜ r ≡ decisionOf (Blocked answer) ⌝ }
 {
     let entry = free_entry();
     Decision {
@@ -82,7 +82,7 @@ fn blocked(answer: u32) -> Decision
 }
 
 fn passed(place: usize, clock: u64, entry: Entry) -> Decision
-    ensures { λ r. ⌜ r ≡ decided (Passed place clock entry) ⌝ }
+    ensures { λ r. ⌜ r ≡ decisionOf (Passed place clock entry) ⌝ }
 {
     Decision {
         answer: 0,
@@ -148,7 +148,7 @@ fn on_entry(
     segment: Segment,
 ) -> Decision
     requires { ⌜ clock < 2 ^ 48 ⌝ }
-    ensures { λ r. ⌜ r ≡ decided (onEntry entry place clock side flow segment) ⌝ }
+    ensures { λ r. ⌜ r ≡ decisionOf (onEntry entry place clock side flow segment) ⌝ }
 {
     let from = sender(entry, side, flow);
     let connection = entry.connection;
@@ -188,7 +188,7 @@ fn unmatched(
     segment: Segment,
 ) -> Decision
     requires { ⌜ (places ≡ placesIn (now table)) × (placeAt places ≤ length (now table)) × (clock < 2 ^ 48) ⌝ }
-    ensures { λ r. ⌜ r ≡ decided (unmatched (now (table .entry)) clock side flow segment) ⌝ }
+    ensures { λ r. ⌜ r ≡ decisionOf (unmatched (now (table .entry)) clock side flow segment) ⌝ }
 {
     if side != 0 {
         return blocked(11);
@@ -216,7 +216,7 @@ fn on_segment(
     segment: Segment,
 ) -> Decision
     requires { ⌜ (places ≡ placesIn (now table)) × (placeAt places ≤ length (now table)) × (clock < 2 ^ 48) ⌝ }
-    ensures { λ r. ⌜ r ≡ decided (onSegment (now (table .entry)) clock side flow segment) ⌝ }
+    ensures { λ r. ⌜ r ≡ decisionOf (onSegment (now (table .entry)) clock side flow segment) ⌝ }
 {
     let from = source(flow);
     let to = destination(flow);
@@ -267,7 +267,7 @@ fn clock_used(table: &[u8], given: u64) -> u64
 // Rows 5 to 15 and 0, on a sound table by the clock used.
 fn on_packet(table: &[u8], places: usize, clock: u64, side: u8, packet: &[u8]) -> Decision
     requires { ⌜ (places ≡ placesIn (now table)) × (placeAt places ≤ length (now table)) × (clock < 2 ^ 48) ⌝ }
-    ensures { λ r. ⌜ r ≡ decided (onPacket (readPacket (now (packet .entry))) (now (table .entry)) clock side) ⌝ }
+    ensures { λ r. ⌜ r ≡ decisionOf (onPacket (readPacket (now (packet .entry))) (now (table .entry)) clock side) ⌝ }
 {
     let read = read_packet(packet);
     match read {
@@ -278,12 +278,12 @@ fn on_packet(table: &[u8], places: usize, clock: u64, side: u8, packet: &[u8]) -
 
 // Rows 1 to 4, then the packet: the first line that applies wins.
 fn decide(side: u8, clock: u64, table: &[u8], packet: &[u8]) -> Decision
-    ensures { λ r. ⌜ r ≡ decided (outcomeOf side clock (now (table .entry)) (now (packet .entry))) ⌝ }
+    ensures { λ r. ⌜ r ≡ decisionOf (outcomeOf side clock (now (table .entry)) (now (packet .entry))) ⌝ }
 {
     if 1 < side {
         return blocked(1);
     }
-    if 281474976710656 <= clock {
+    if 281_474_976_710_656 <= clock {
         return blocked(2);
     }
     if !legal_length(table.len()) {

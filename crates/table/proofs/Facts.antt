@@ -10,7 +10,8 @@ use borrow.Author.Tests.{ltb-true, lt-ltb, eqb-true, eq-eqb}
 use Rattle.choice.specs.Choice.{_<ᵇ_, _=ᵇ_}
 use Rattle.choice.proofs.Tests.{&&-true, ||-true}
 use Rattle.connection.specs.Sound.{soundConnection}
-use Rattle.entry.specs.Layout.{entrySize, placeAt, entryAt, ZeroBytes}
+use Rattle.entry.specs.Layout.{entrySize, placeAt, entryAt}
+use Rattle.entry.proofs.Agree.{ZeroBytes}
 use Rattle.table.specs.Table.{zerosAt, headerClock, soundHeader, freeAt, soundAt, soundTable}
 use Rattle.table.proofs.Places.{each-of-all, all-by-each}
 use Rattle.table.proofs.Zeros.{Zeros, zerosAt-true, true-zerosAt}
@@ -29,7 +30,7 @@ pub record SoundFacts (t : List ℕ) (n : ℕ) : Type 0 where
   pub header : Zeros t 8 56
   pub places : (p : ℕ) → p < n → SoundPlace (headerClock t) t (placeAt p)
 
-place-facts : (t : List ℕ) (p : ℕ) → soundAt t p ≡ true → SoundPlace (headerClock t) t (placeAt p)
+pub place-facts : (t : List ℕ) (p : ℕ) → soundAt t p ≡ true → SoundPlace (headerClock t) t (placeAt p)
 unfolding soundAt freeAt
 place-facts t p sound = ⊎-elim (λ free. inl (zerosAt-true t (placeAt p) 64 free)) (λ more. inr (facts more)) (||-true _ _ sound)
   where

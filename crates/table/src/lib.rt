@@ -30,14 +30,14 @@ pub enum Found {
 
 // Octets in whole words
 
-// Two zero tests in one: 0 exactly where both numbers are.
+// Bitwise or, so that two tests for zero take one comparison: 0 exactly where both numbers are.
 fn either(a: u64, b: u64) -> u64
     ensures { λ r. ⌜ (a ≤ r) × (b ≤ r) × (a ≡ 0 → b ≡ 0 → r ≡ 0) ⌝ }
 {
     a | b
 }
 
-// 0 exactly where eight octets are zeros, where 16 are, where 64 are.
+// 0 exactly where the eight octets are zeros; any16 and any64 likewise.
 fn any8(table: &[u8], at: usize) -> u64
     requires { ⌜ at + 8 ≤ length (now table) ⌝ }
     ensures { λ r. ⌜ (r ≡ 0 → zerosAt (now (table .entry)) at 8 ≡ true) × (zerosAt (now (table .entry)) at 8 ≡ true → r ≡ 0) ⌝ }
@@ -230,7 +230,8 @@ pub fn vacant(table: &[u8], places: usize, clock: u64) -> Found
 
 // Soundness
 
-// Stage, side, FIN bits and zero as one word. 1 to 3 are the usual ones: a `match` of their own, since one tests its ranges last.
+// An entry's first four octets as one word: stage + 256·side + 65,536·FIN bits. k leaves out the side's bit: 1 to 3 in these stages, else
+// 4 with one FIN bit or 5 with both. The usual ones have a `match` of their own, since one tests its ranges last.
 fn sound_word(w: u32) -> bool
     ensures { λ r. ⌜ r ≡ soundWord w ⌝ }
 {
@@ -238,9 +239,9 @@ fn sound_word(w: u32) -> bool
     match k {
         1..=3 => true,
         _ => match k {
-            65540 => true,
-            131076 => true,
-            196613 => true,
+            65_540 => true,
+            131_076 => true,
+            196_613 => true,
             _ => false,
         },
     }

@@ -318,7 +318,7 @@ pub fn write_line(side: u8, clock: u64, packet: &[u8], line: &mut [u8]) -> LineW
     if 1 < side {
         return LineWrite::UnknownSide;
     }
-    if 281474976710656 <= clock {
+    if 281_474_976_710_656 <= clock {
         return LineWrite::ClockTooLarge;
     }
     if n == 0 {

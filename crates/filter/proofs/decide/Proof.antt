@@ -6,7 +6,7 @@ use lib.ListN.{length}
 use borrow.Author.Tests.{not-false}
 use Rattle.packet.specs.Read.{readPacket}
 use Rattle.filter.specs.Call.{onPacket}
-use Rattle.filter.specs.Decided.{decided}
+use Rattle.filter.specs.Decision.{decisionOf}
 use Rattle.filter.proofs.Rows.{legal-length-bounds, sound-table-clock, row-1, row-2, row-3, row-4, past-row-4}
 use borrow.Author.Needs.{needs}
 use Rattle.filter.proofs.decide.Statement.{statement}
@@ -22,7 +22,7 @@ blocked-requires c κs = search needs
 returns : tie.Need-returns
 returns c =
     let a = c .before .before .before .before .args in
-    c .blocked .ensures ∙ ap decided (sym (row-1 (a .side) (a .clock) (a .table .now) (a .packet .now) (c .before .if1 .taken)))
+    c .blocked .ensures ∙ ap decisionOf (sym (row-1 (a .side) (a .clock) (a .table .now) (a .packet .now) (c .before .if1 .taken)))
 
 blocked-requires-2 : tie.Need-blocked-requires-2
 blocked-requires-2 c κs = search needs
@@ -30,7 +30,7 @@ blocked-requires-2 c κs = search needs
 returns-2 : tie.Need-returns-2
 returns-2 c =
     let a = c .before .before .before .before .before .args in
-    c .blocked2 .ensures ∙ ap decided (sym (row-2 (a .side) (a .clock) (a .table .now) (a .packet .now) (c .before .before .if1 .left) (c .before .if2 .taken)))
+    c .blocked2 .ensures ∙ ap decisionOf (sym (row-2 (a .side) (a .clock) (a .table .now) (a .packet .now) (c .before .before .if1 .left) (c .before .if2 .taken)))
 
 legal-length-requires : tie.Need-legal-length-requires
 legal-length-requires c κs = search needs
@@ -43,7 +43,7 @@ returns-3 c =
     let k = c .before .before in
     let a = k .before .before .before .before .before .args in
     c .blocked3 .ensures
-    ∙ ap decided (sym (row-3 (a .side) (a .clock) (a .table .now) (a .packet .now) (k .before .before .if1 .left) (k .before .if2 .left)
+    ∙ ap decisionOf (sym (row-3 (a .side) (a .clock) (a .table .now) (a .packet .now) (k .before .before .if1 .left) (k .before .if2 .left)
     (ap not (sym (k .legal-length .ensures)) ∙ c .before .if3 .taken)))
 
 sub-places : tie.Need-sub-places
@@ -61,7 +61,7 @@ returns-4 c =
     let k = m .before .before in
     let a = k .before .before .before .before .before .args in
     c .blocked4 .ensures
-    ∙ ap decided (sym (row-4 (a .side) (a .clock) (a .table .now) (a .packet .now) (k .before .before .if1 .left) (k .before .if2 .left)
+    ∙ ap decisionOf (sym (row-4 (a .side) (a .clock) (a .table .now) (a .packet .now) (k .before .before .if1 .left) (k .before .if2 .left)
     (ap not (sym (k .legal-length .ensures)) ∙ m .before .if3 .left) (ap not (sym (m .sound .ensures)) ∙ c .before .if4 .taken)))
 
 clock-used-requires : tie.Need-clock-used-requires
@@ -80,8 +80,8 @@ returns-5 c =
     let k = m .before .before in
     let a = k .before .before .before .before .before .args in
     c .on-packet .ensures
-    ∙ ap (λ (now : ℕ). decided (onPacket (readPacket (a .packet .now)) (a .table .now) now (a .side))) (c .before .clock-used .ensures)
-    ∙ ap decided (sym (past-row-4 (a .side) (a .clock) (a .table .now) (a .packet .now) (k .before .before .if1 .left) (k .before .if2 .left)
+    ∙ ap (λ (now : ℕ). decisionOf (onPacket (readPacket (a .packet .now)) (a .table .now) now (a .side))) (c .before .clock-used .ensures)
+    ∙ ap decisionOf (sym (past-row-4 (a .side) (a .clock) (a .table .now) (a .packet .now) (k .before .before .if1 .left) (k .before .if2 .left)
     (ap not (sym (k .legal-length .ensures)) ∙ m .before .if3 .left) (ap not (sym (m .sound .ensures)) ∙ c .before .before .if4 .left)))
 
 pub decide-spec : {M : Type 1} → statement M

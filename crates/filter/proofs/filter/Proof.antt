@@ -1,6 +1,6 @@
 use mathlib.Core.Path.{ap, _∙_}
 use Rattle.filter.specs.Call.{outcomeOf}
-use Rattle.filter.specs.Decided.{written}
+use Rattle.filter.specs.Decision.{written}
 use Rattle.filter.proofs.Fits.{written≡tableAfter, reply≡replyOf, outcome-within, decision-fits}
 use borrow.Author.Needs.{needs}
 use Rattle.filter.proofs.filter.Statement.{statement}

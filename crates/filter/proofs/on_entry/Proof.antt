@@ -7,7 +7,7 @@ use Rattle.connection.specs.declared.Verdict.the-variants.{Pass, NotAllowed, Se
 use Rattle.entry.specs.declared.Entry.{Entry}
 use Rattle.filter.specs.Call.{entryWith, entryAfter, byVerdict, senderOf, onEntry}
 use Rattle.filter.specs.Outcome.{Passed}
-use Rattle.filter.specs.Decided.{decided}
+use Rattle.filter.specs.Decision.{decisionOf}
 use Rattle.filter.proofs.Rows.{onEntry-by-verdict}
 use borrow.Author.Needs.{needs}
 use Rattle.filter.proofs.on_entry.Statement.{statement}
@@ -84,17 +84,17 @@ returns c =
     let a = start d .args in
     let told = c .before .before .enum-told .given .1 in
     c .passed .ensures
-    ∙ ap (λ (x : Entry). decided (Passed (a .place) (a .clock) x)) (c .before .entry-after .ensures ∙ ap (entryWith (a .entry) (a .segment)) (passed-is d told))
-    ∙ ap decided (sym (row d Pass told))
+    ∙ ap (λ (x : Entry). decisionOf (Passed (a .place) (a .clock) x)) (c .before .entry-after .ensures ∙ ap (entryWith (a .entry) (a .segment)) (passed-is d told))
+    ∙ ap decisionOf (sym (row d Pass told))
 
 returns-2 : tie.Need-returns-2
-returns-2 c = c .blocked .ensures ∙ ap decided (sym (row (c .before .before .before .before) NotAllowed (c .before .enum-told2 .given .1)))
+returns-2 c = c .blocked .ensures ∙ ap decisionOf (sym (row (c .before .before .before .before) NotAllowed (c .before .enum-told2 .given .1)))
 
 returns-3 : tie.Need-returns-3
-returns-3 c = c .blocked2 .ensures ∙ ap decided (sym (row (c .before .before .before .before) SequenceMissed (c .before .enum-told3 .given .1)))
+returns-3 c = c .blocked2 .ensures ∙ ap decisionOf (sym (row (c .before .before .before .before) SequenceMissed (c .before .enum-told3 .given .1)))
 
 returns-4 : tie.Need-returns-4
-returns-4 c = c .blocked3 .ensures ∙ ap decided (sym (row (c .before .before .before .before) AckMissed (c .before .enum-told4 .given .1)))
+returns-4 c = c .blocked3 .ensures ∙ ap decisionOf (sym (row (c .before .before .before .before) AckMissed (c .before .enum-told4 .given .1)))
 
 pub on-entry-spec : {M : Type 1} → statement M
 on-entry-spec =

@@ -3,7 +3,7 @@ use mathlib.Core.Path.{sym, ap, _∙_}
 use Rattle.packet.specs.declared.PacketRead.{PacketRead}
 use Rattle.filter.specs.Call.{onPacket}
 use Rattle.filter.specs.Outcome.{Blocked}
-use Rattle.filter.specs.Decided.{decided}
+use Rattle.filter.specs.Decision.{decisionOf}
 use borrow.Author.Needs.{needs}
 use Rattle.filter.proofs.on_packet.Statement.{statement}
 use Rattle.filter.proofs.on_packet.Tie as tie
@@ -31,15 +31,15 @@ returns c =
     let k = c .before .before .before .before .before in
     let a = k .before .before .before .args in
     c .blocked .ensures
-    ∙ ap (λ (n : ℕ). decided (Blocked n)) (c .before .number .ensures)
-    ∙ ap (λ (r : PacketRead). decided (onPacket r (a .table .now) (a .clock) (a .side))) (sym (c .before .before .before .read .given .1) ∙ k .read-packet .ensures .0)
+    ∙ ap (λ (n : ℕ). decisionOf (Blocked n)) (c .before .number .ensures)
+    ∙ ap (λ (r : PacketRead). decisionOf (onPacket r (a .table .now) (a .clock) (a .side))) (sym (c .before .before .before .read .given .1) ∙ k .read-packet .ensures .0)
 
 returns-2 : tie.Need-returns-2
 returns-2 c =
     let k = c .before .before .before .before in
     let a = k .before .before .before .args in
     c .on-segment .ensures
-    ∙ ap (λ (r : PacketRead). decided (onPacket r (a .table .now) (a .clock) (a .side))) (sym (c .before .before .read2 .given .1) ∙ k .read-packet .ensures .0)
+    ∙ ap (λ (r : PacketRead). decisionOf (onPacket r (a .table .now) (a .clock) (a .side))) (sym (c .before .before .read2 .given .1) ∙ k .read-packet .ensures .0)
 
 pub on-packet-spec : {M : Type 1} → statement M
 on-packet-spec =

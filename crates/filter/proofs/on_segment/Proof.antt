@@ -4,7 +4,7 @@ use native.Mathlib.Omega.{arith}
 use Rattle.entry.specs.declared.Entry.{Entry}
 use Rattle.table.proofs.Places.{found-passes}
 use Rattle.filter.specs.Call.{onEntry}
-use Rattle.filter.specs.Decided.{decided}
+use Rattle.filter.specs.Decision.{decisionOf}
 use Rattle.filter.proofs.Rows.{onSegment-by-search}
 use borrow.Author.Needs.{needs}
 use Rattle.filter.proofs.on_segment.Statement.{statement}
@@ -45,8 +45,8 @@ returns c =
     let z = k .before .before .before .before in
     let a = z .args in
     c .on-entry .ensures
-    ∙ ap (λ (e : Entry). decided (onEntry e (f .found .given .0 .0) (a .clock) (a .side) (a .flow) (a .segment))) (c .before .load .ensures)
-    ∙ ap decided (sym (onSegment-by-search (a .table .now) (a .clock) (a .side) (a .flow) (a .segment) _ _ _ _
+    ∙ ap (λ (e : Entry). decisionOf (onEntry e (f .found .given .0 .0) (a .clock) (a .side) (a .flow) (a .segment))) (c .before .load .ensures)
+    ∙ ap decisionOf (sym (onSegment-by-search (a .table .now) (a .clock) (a .side) (a .flow) (a .segment) _ _ _ _
     (k .before .before .source .ensures) (k .before .destination .ensures) (z .pre .0) (sym (f .found .given .1) ∙ k .find .ensures)))
 
 returns-2 : tie.Need-returns-2
@@ -55,7 +55,7 @@ returns-2 c =
     let z = k .before .before .before .before in
     let a = z .args in
     c .unmatched .ensures
-    ∙ ap decided (sym (onSegment-by-search (a .table .now) (a .clock) (a .side) (a .flow) (a .segment) _ _ _ _
+    ∙ ap decisionOf (sym (onSegment-by-search (a .table .now) (a .clock) (a .side) (a .flow) (a .segment) _ _ _ _
     (k .before .before .source .ensures) (k .before .destination .ensures) (z .pre .0) (sym (c .before .enum-told .given .1) ∙ k .find .ensures)))
 
 pub on-segment-spec : {M : Type 1} → statement M

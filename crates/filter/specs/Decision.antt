@@ -9,9 +9,9 @@ use Rattle.filter.specs.Call.{freeEntry, nowhere, withEntry}
 use Rattle.filter.specs.Outcome.{Outcome, Blocked, Passed}
 use Rattle.filter.specs.declared.Decision.{Decision}
 
-abbrev pub decided : Outcome → Decision
-decided (Blocked n) = record { answer = n; place = nowhere; clock = 0; entry = freeEntry }
-decided (Passed p now e) = record { answer = 0; place = p; clock = now; entry = e }
+abbrev pub decisionOf : Outcome → Decision
+decisionOf (Blocked n) = record { answer = n; place = nowhere; clock = 0; entry = freeEntry }
+decisionOf (Passed p now e) = record { answer = 0; place = p; clock = now; entry = e }
 
 -- the table that a decision leaves
 unfoldable pub written : List ℕ → Decision → List ℕ
