@@ -26,7 +26,9 @@ if-cases P true x y a b = a refl
 if-cases P false x y a b = b refl
 
 -- and of two choices by one test
-pub if-both : {A B : Type 0} (P : A → B → Type 0) (s t : Bool) (x y : A) (x' y' : B) → s ≡ t → (s ≡ true → P x x') → (s ≡ false → P y y') → P (if s then x else y) (if t then x' else y')
+pub if-both :
+    {A B : Type 0} (P : A → B → Type 0) (s t : Bool) (x y : A) (x' y' : B) → s ≡ t → (s ≡ true → P x x') → (s ≡ false → P y y') →
+    P (if s then x else y) (if t then x' else y')
 if-both P s t x y x' y' same taken not-taken =
     rw (← same) (if-cases (λ b. P b (if s then x' else y')) s x y (λ e. rw (if-true s x' y' e) (taken e)) (λ e. rw (if-false s x' y' e) (not-taken e)))
 

@@ -1,13 +1,13 @@
 -- Laws of tests, and of deciding by one.
 use Prim.Native.Nat.{ℕ, _≤_, _<_}
 use mathlib.Core.Path.{_≡_, refl, sym}
-use mathlib.Core.Bool.{Bool, true, false, _&&_, _||_, and-false}
+use mathlib.Core.Bool.{Bool, true, false, not, _&&_, _||_, and-false}
 use mathlib.Core.Logic.{_⊎_, inl, inr, ⊎-elim}
 use native.Mathlib.Omega.{arith}
 use native.Mathlib.Nat.{lt-of-not-le}
 use lib.Dec.{leb, eqb}
 use borrow.Author.Tests.{ltb-true, ltb-false, le-leb, lt-leb, leb-true, leb-false, eq-eqb, ne-eqb, eqb-true, eqb-false}
-use Rattle.choice.specs.Choice.{_<ᵇ_, _≤ᵇ_}
+use Rattle.choice.specs.Choice.{_<ᵇ_, _≤ᵇ_, _=ᵇ_}
 
 pub true-or-false : (t : Bool) → (t ≡ true) ⊎ (t ≡ false)
 true-or-false true = inl refl
@@ -24,6 +24,9 @@ lt-or-ge a b = ⊎-elim (λ t. inl (ltb-true a b t)) (λ t. inr (ltb-false a b t
 pub false-true : {A : Type 0} → false ≡ true → A
 false-true e = let z : _≡_ {A = ℕ} 0 1 = cc in absurd (omega arith)
 
+pub true-&& : (s t : Bool) → s ≡ true → t ≡ true → s && t ≡ true
+true-&& s t p q = rw (p, q)
+
 pub &&-true : (s t : Bool) → s && t ≡ true → (s ≡ true) × (t ≡ true)
 &&-true true t e = (refl, e)
 &&-true false t e = false-true e
@@ -35,6 +38,10 @@ pub ||-true : (s t : Bool) → s || t ≡ true → (s ≡ true) ⊎ (t ≡ true)
 pub ||-false : (s t : Bool) → s || t ≡ false → (s ≡ false) × (t ≡ false)
 ||-false true t e = false-true (sym e)
 ||-false false t e = (refl, e)
+
+pub not-||-true : (s t : Bool) → not s || t ≡ true → s ≡ true → t ≡ true
+not-||-true true t e _ = e
+not-||-true false t e f = false-true f
 
 -- A number between two
 
@@ -72,3 +79,8 @@ eqb≡eqb x y a b to from = go (eqb x y) refl
     go : (t : Bool) → eqb x y ≡ t → eqb x y ≡ eqb a b
     go true e = rw (e, eq-eqb a b (to (eqb-true x y e)))
     go false e = rw (e, ne-eqb a b (λ (h : a ≡ b). eqb-false x y e (from h)))
+
+-- a number that is 0 exactly where a test holds
+pub eqb-0≡test : (r : ℕ) (t : Bool) → (r ≡ 0 → t ≡ true) × (t ≡ true → r ≡ 0) → (r =ᵇ 0) ≡ t
+eqb-0≡test r true h = eq-eqb r 0 (h .1 refl)
+eqb-0≡test r false h = ne-eqb r 0 (λ e. false-true (h .0 e))

@@ -1,12 +1,12 @@
--- The test for 1 or 2, of stages and of FIN bits, a flag that is not set, and numbers that are no stage.
-use Prim.Native.Nat.{ℕ, _≤_, _<_}
+-- The test for 1 or 2, of stages and of FIN bits, a flag that is not set, lives, and the stages that a pass leaves.
+use Prim.Native.Nat.{ℕ, zero, suc, _≤_, _<_}
 use mathlib.Core.Path.{_≡_, refl, _∙_}
 use mathlib.Core.Bool.{Bool, true, false, _&&_, not}
 use native.Mathlib.Omega.{arith}
 use borrow.Author.Tests.{le-leb, lt-leb, leb-true, eq-eqb, ne-eqb, eqb-true, eqb-false}
-use Rattle.choice.specs.Choice.{_≤ᵇ_, _=ᵇ_}
-use Rattle.choice.proofs.Choice.{if-false, if-=-not}
-use Rattle.connection.specs.Stages.{lifeOf}
+use Rattle.choice.specs.Choice.{if_then_else_, _≤ᵇ_, _=ᵇ_}
+use Rattle.choice.proofs.Choice.{if-false, if-either, if-=-not}
+use Rattle.connection.specs.Stages.{lifeOf, openStage, stageAfter}
 
 pub one-or-two : (x : ℕ) → 1 ≤ x → x < 3 → ((1 ≤ᵇ x) && (x ≤ᵇ 2)) ≡ true
 one-or-two x low high = rw (le-leb 1 x low, le-leb x 2 (omega arith))
@@ -34,3 +34,26 @@ lifeOf-outside stage outside =
     ∙ if-=-not _ _ (λ (e : stage ≡ 3). omega (arith, outside (omega arith)))
     ∙ if-=-not _ _ (λ (e : stage ≡ 4). omega (arith, outside (omega arith)))
     ∙ if-=-not _ _ (λ (e : stage ≡ 5). omega (arith, outside (omega arith)))
+
+pub 1≤lifeOf : (stage : ℕ) → 1 ≤ stage → stage ≤ 5 → 1 ≤ lifeOf stage
+unfolding lifeOf if_then_else_
+1≤lifeOf zero low high = absurd (omega arith)
+1≤lifeOf (suc zero) low high = omega arith
+1≤lifeOf (suc (suc zero)) low high = omega arith
+1≤lifeOf (suc (suc (suc zero))) low high = omega arith
+1≤lifeOf (suc (suc (suc (suc zero)))) low high = omega arith
+1≤lifeOf (suc (suc (suc (suc (suc zero))))) low high = omega arith
+1≤lifeOf (suc (suc (suc (suc (suc (suc stage)))))) low high = absurd (omega arith)
+
+module _ (stage fins i f : ℕ) where
+  pub stageAfter≥2 : 2 ≤ stageAfter stage fins i f
+  unfolding stageAfter openStage
+  stageAfter≥2 =
+      if-either (λ n. 2 ≤ n) _ _ _ (omega arith)
+      (if-either (λ n. 2 ≤ n) _ _ _ (omega arith) (if-either (λ n. 2 ≤ n) _ _ _ (omega arith) (if-either (λ n. 2 ≤ n) _ _ _ (omega arith) (omega arith))))
+
+  pub stageAfter≤5 : stageAfter stage fins i f ≤ 5
+  unfolding stageAfter openStage
+  stageAfter≤5 =
+      if-either (λ n. n ≤ 5) _ _ _ (omega arith)
+      (if-either (λ n. n ≤ 5) _ _ _ (omega arith) (if-either (λ n. n ≤ 5) _ _ _ (omega arith) (if-either (λ n. n ≤ 5) _ _ _ (omega arith) (omega arith))))

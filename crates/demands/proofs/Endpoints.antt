@@ -41,7 +41,9 @@ asks-fits q a is =
     rw (r .is) (read-fits (q .packet) (r .flow) (r .segment) (q .octets) (r .packet-read))
 
 -- those of the entry that a pass leaves
-pub left-fits : (t : List ℕ) (k : Addresses) (p : ℕ) (e : Entry) → Octets t → AddressesFit k → EndpointsFrom t k p e → AddressesFit (viewEntry e .key)
+pub left-fits :
+    (t : List ℕ) (k : Addresses) (p : ℕ) (e : Entry) → Octets t → AddressesFit k → EndpointsFrom t k p e →
+    AddressesFit (viewEntry e .key)
 left-fits t k p e octets fits (freed is) = rw is (typed-fits freeEntry typed-free)
 left-fits t k p e octets fits (of-packet is) = rw is fits
 left-fits t k p e octets fits (of-entry is) = rw is (typed-fits _ (typed-entryAt t _ octets))

@@ -21,7 +21,9 @@ abbrev viewAt : List ℕ → ℕ → rows.Entry IPv4 connections
 viewAt t p = viewEntry (entryAt t (placeAt p))
 
 -- the entry in the list is the one at its place
-pub getD-entriesFrom : (t : List ℕ) (i k p : ℕ) (d : rows.Entry IPv4 connections) → p < k → getD (entriesFrom t i k) p d ≡ viewEntry (entryAt t (placeAt (i + p)))
+pub getD-entriesFrom :
+    (t : List ℕ) (i k p : ℕ) (d : rows.Entry IPv4 connections) → p < k →
+    getD (entriesFrom t i k) p d ≡ viewEntry (entryAt t (placeAt (i + p)))
 unfolding entriesFrom
 getD-entriesFrom t i zero p d inside = absurd (omega arith)
 getD-entriesFrom t i (suc k) zero d inside = ap (viewAt t) (omega arith)
@@ -32,5 +34,7 @@ getD-entriesFrom t i (suc k) (suc p) d inside = getD-entriesFrom t (i + 1) k p d
 pub places-viewOf : (t : List ℕ) → length (viewOf t .entries) ≡ placesIn t
 places-viewOf t = length-entriesFrom t 0 (placesIn t)
 
-pub getD-viewOf : (t : List ℕ) (p : ℕ) (d : rows.Entry IPv4 connections) → p < placesIn t → getD (viewOf t .entries) p d ≡ viewEntry (entryAt t (placeAt p))
+pub getD-viewOf :
+    (t : List ℕ) (p : ℕ) (d : rows.Entry IPv4 connections) → p < placesIn t →
+    getD (viewOf t .entries) p d ≡ viewEntry (entryAt t (placeAt p))
 getD-viewOf t p d inside = getD-entriesFrom t 0 (placesIn t) p d inside ∙ ap (viewAt t) (omega arith)

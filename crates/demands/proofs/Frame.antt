@@ -54,7 +54,9 @@ module _ (t : List ℕ) (p now : ℕ) (e : Entry) (inside : p < placesIn t) wher
   past-clock k past = getD-overwrite-after t 0 (octetsOf 8 now) clock-fits k (rw (length-octetsOf 8 now) (omega arith))
 
   -- all bytes but the clock's and the entry's are as they were
-  pub byte-elsewhere : (k : ℕ) → 8 ≤ k → (k < placeAt p) ⊎ (placeAt p + entrySize ≤ k) → getD (tableAfter t (Passed p now e)) k 0 ≡ getD t k 0
+  pub byte-elsewhere :
+      (k : ℕ) → 8 ≤ k → (k < placeAt p) ⊎ (placeAt p + entrySize ≤ k) →
+      getD (tableAfter t (Passed p now e)) k 0 ≡ getD t k 0
   byte-elsewhere k past off = ⊎-elim (before-entry k) (past-entry k) off ∙ past-clock k past
 
   pub clock-after : now < 2 ^ 64 → headerClock (tableAfter t (Passed p now e)) ≡ now

@@ -1,5 +1,5 @@
 -- An all-zero table is a fresh one, and sound.
-use Prim.Native.Nat.{ℕ, _+_, _%_, _≤_, _<_}
+use Prim.Native.Nat.{ℕ, _+_, _-_, _%_, _≤_, _<_}
 use mathlib.Core.Path.{_≡_, sym, ap, _∙_}
 use mathlib.Core.Logic.{inl, ⊎-elim}
 use mathlib.Core.Bool.{true}
@@ -12,7 +12,7 @@ use Rattle.choice.proofs.Tests.{lt-or-ge}
 use Rattle.octets.specs.BigEndian.{bigEndian}
 use Rattle.octets.specs.Digits.{number}
 use Rattle.octets.proofs.BigEndian.{bigEndian-agree}
-use Rattle.entry.specs.Layout.{entrySize, placeAt}
+use Rattle.entry.specs.Layout.{headerSize, entrySize, placeAt}
 use Rattle.table.specs.Table.{headerClock}
 use Rattle.table.proofs.Zeros.{Zeros}
 use Rattle.table.proofs.Facts.{SoundFacts, facts-table}
@@ -53,8 +53,8 @@ fresh-places n = rw (length-zeroBytes (placeAt n)) (omega arith)
 fresh-legal : (n : ℕ) → 1 ≤ n → n ≤ 512 → legalLength (placeAt n) ≡ true
 unfolding legalLength
 fresh-legal n some most =
-    let whole : placeAt n % entrySize ≡ 0 = omega arith in
-    rw (eq-eqb (placeAt n % entrySize) 0 whole, le-leb (placeAt 1) (placeAt n) (omega arith))
+    let whole : (placeAt n - headerSize) % entrySize ≡ 0 = omega arith in
+    rw (eq-eqb ((placeAt n - headerSize) % entrySize) 0 whole, le-leb (placeAt 1) (placeAt n) (omega arith))
     (le-leb (placeAt n) (placeAt 512) (omega arith))
 
 fresh-facts : (n k : ℕ) → SoundFacts (zeroBytes n) k

@@ -32,7 +32,9 @@ use Rattle.demands.proofs.Endpoints.{asks-fits, left-fits}
 
 -- The clock used
 
-used-small : (t : List ℕ) (q : BytesCall) (a : rows.Ask IPv4) → SoundBytes t → readingOf q ≡ asks a → rows.clockUsed IPv4 connections (viewOf t) a < 2 ^ 48
+used-small :
+    (t : List ℕ) (q : BytesCall) (a : rows.Ask IPv4) → SoundBytes t → readingOf q ≡ asks a →
+    rows.clockUsed IPv4 connections (viewOf t) a < 2 ^ 48
 used-small t q a s is = omega (arith, sound-table-clock t _ (s .sound), asked-clock q a is)
 
 -- The entry that a pass leaves
@@ -48,7 +50,9 @@ module _ (clock : ℕ) (l : List (rows.Entry IPv4 connections)) (p : ℕ) (x : r
   new-inside : p < length (set l p x)
   new-inside = rw (length-set l p x) inside
 
-  new-sound : SoundTable IPv4 (record { clock = clock; entries = set l p x }) → (x ≡ rows.freeEntry IPv4 connections) ⊎ (soundConnection clock (x .connection) ≡ true)
+  new-sound :
+      SoundTable IPv4 (record { clock = clock; entries = set l p x }) →
+      (x ≡ rows.freeEntry IPv4 connections) ⊎ (soundConnection clock (x .connection) ≡ true)
   new-sound sound = rw (getD-set-same l p x (rows.freeEntry IPv4 connections) inside) at (sound p new-inside)
 
   new-typed : connection.TypedTable IPv4 (record { clock = clock; entries = set l p x }) → connection.Typed (x .connection)
@@ -56,11 +60,15 @@ module _ (clock : ℕ) (l : List (rows.Entry IPv4 connections)) (p : ℕ) (x : r
 
 -- Answers and places
 
-same-answer : (t : List ℕ) (a : rows.Ask IPv4) (o : Outcome) → Same t a o → replyOf o .answer ≡ rows.filter IPv4 connections (viewOf t) a .answer
+same-answer :
+    (t : List ℕ) (a : rows.Ask IPv4) (o : Outcome) → Same t a o →
+    replyOf o .answer ≡ rows.filter IPv4 connections (viewOf t) a .answer
 same-answer t a o (refuses n is _ reply) = rw (is, reply)
 same-answer t a o (passes p now e is _ _ reply _) = rw (is, reply)
 
-same-place : (t : List ℕ) (a : rows.Ask IPv4) (o : Outcome) → Same t a o → replyOf o .place ≡ rows.filter IPv4 connections (viewOf t) a .place
+same-place :
+    (t : List ℕ) (a : rows.Ask IPv4) (o : Outcome) → Same t a o →
+    replyOf o .place ≡ rows.filter IPv4 connections (viewOf t) a .place
 same-place t a o (refuses n is _ reply) = rw (is, reply)
 same-place t a o (passes p now e is _ _ reply _) = rw (is, reply)
 

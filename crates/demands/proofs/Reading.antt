@@ -30,7 +30,9 @@ use Rattle.demands.proofs.Search.{askOf}
 -- The call on a sound table
 
 -- where 1 to 4 do not apply, the packet decides
-pub outcome-read : (side clock : ℕ) (t packet : List ℕ) → not (side ≤ᵇ 1) ≡ false → 2 ^ 48 ≤ᵇ clock ≡ false → SoundBytes t → outcomeOf side clock t packet ≡ onPacket (readPacket packet) t (clockUsed t clock) side
+pub outcome-read :
+    (side clock : ℕ) (t packet : List ℕ) → not (side ≤ᵇ 1) ≡ false → 2 ^ 48 ≤ᵇ clock ≡ false → SoundBytes t →
+    outcomeOf side clock t packet ≡ onPacket (readPacket packet) t (clockUsed t clock) side
 unfolding outcomeOf
 outcome-read side clock t packet side-fine clock-fine s =
     if-false _ _ _ side-fine ∙ if-false _ _ _ clock-fine ∙ if-false _ _ _ (ap not (s .legal)) ∙ if-false _ _ _ (ap not (s .sound))
@@ -57,7 +59,9 @@ pub record Asked (q : BytesCall) (a : rows.Ask IPv4) : Type 0 where
   pub side-fine : not (q .side ≤ᵇ 1) ≡ false
   pub clock-fine : 2 ^ 48 ≤ᵇ q .clock ≡ false
 
-past-refused : {a : rows.Ask IPv4} {rest : Reading (rows.Ask IPv4)} (t : Bool) (n p : ℕ) → (if t then refused n p else rest) ≡ asks a → (t ≡ false) × (rest ≡ asks a)
+past-refused :
+    {a : rows.Ask IPv4} {rest : Reading (rows.Ask IPv4)} (t : Bool) (n p : ℕ) → (if t then refused n p else rest) ≡ asks a →
+    (t ≡ false) × (rest ≡ asks a)
 unfolding if_then_else_
 past-refused true n p is = false-true cc
 past-refused false n p is = (refl, is)
@@ -66,7 +70,10 @@ pub reading-asks : (q : BytesCall) (a : rows.Ask IPv4) → readingOf q ≡ asks 
 unfolding readingOf
 reading-asks q a is = let row1 = past-refused _ _ _ is in let row2 = past-refused _ _ _ (row1 .1) in go (row1 .0) (row2 .0) _ refl (row2 .1)
   where
-    go : not (q .side ≤ᵇ 1) ≡ false → 2 ^ 48 ≤ᵇ q .clock ≡ false → (r : PacketRead) → readPacket (q .packet) ≡ r → byPacket r (q .side) (q .clock) ≡ asks a → Asked q a
+    go :
+        not (q .side ≤ᵇ 1) ≡ false → 2 ^ 48 ≤ᵇ q .clock ≡ false → (r : PacketRead) → readPacket (q .packet) ≡ r →
+        byPacket r (q .side) (q .clock) ≡ asks a →
+        Asked q a
     go side-fine clock-fine (Refused cause) read asked = false-true cc
     go side-fine clock-fine (Tcp f g) read asked = record { flow = f; segment = g; packet-read = read; is = cc; side-fine = side-fine; clock-fine = clock-fine }
 
@@ -99,7 +106,10 @@ pub record Refusal (q : BytesCall) (n p : ℕ) : Type 0 where
   pub blocks : n ≡ 0 → ⊥
 
 module _ (q : BytesCall) (n p : ℕ) where
-  refusal : (m : ℕ) → 1 ≤ m → ((t : List ℕ) → SoundBytes t → outcomeOf (q .side) (q .clock) t (q .packet) ≡ Blocked m) → _≡_ {A = Reading (rows.Ask IPv4)} (refused m nowhere) (refused n p) → Refusal q n p
+  refusal :
+      (m : ℕ) → 1 ≤ m → ((t : List ℕ) → SoundBytes t → outcomeOf (q .side) (q .clock) t (q .packet) ≡ Blocked m) →
+      _≡_ {A = Reading (rows.Ask IPv4)} (refused m nowhere) (refused n p) →
+      Refusal q n p
   refusal m some outcome same =
       let number : m ≡ n = cc in
       let place : nowhere ≡ p = cc in
@@ -113,7 +123,10 @@ module _ (q : BytesCall) (n p : ℕ) where
   unfolding readingOf outcomeOf
   refused-clock fine bad is = refusal 2 (omega arith) (λ t s. if-false _ _ _ fine ∙ if-true _ _ _ bad) (sym (if-false _ _ _ fine ∙ if-true _ _ _ bad) ∙ is)
 
-  refused-packet : not (q .side ≤ᵇ 1) ≡ false → 2 ^ 48 ≤ᵇ q .clock ≡ false → (r : PacketRead) → readPacket (q .packet) ≡ r → byPacket r (q .side) (q .clock) ≡ refused n p → Refusal q n p
+  refused-packet :
+      not (q .side ≤ᵇ 1) ≡ false → 2 ^ 48 ≤ᵇ q .clock ≡ false → (r : PacketRead) → readPacket (q .packet) ≡ r →
+      byPacket r (q .side) (q .clock) ≡ refused n p →
+      Refusal q n p
   refused-packet side-fine clock-fine (Refused cause) read is =
       refusal (causeNumber cause) (omega (arith, cause-5-to-10 cause .0)) (λ t s. outcome-read _ _ t _ side-fine clock-fine s ∙ ap (λ r. onPacket r t (clockUsed t (q .clock)) (q .side)) read) is
   refused-packet side-fine clock-fine (Tcp f g) read is = false-true cc
@@ -122,7 +135,9 @@ module _ (q : BytesCall) (n p : ℕ) where
   unfolding readingOf
   reading-refused is = go (true-or-false (not (q .side ≤ᵇ 1))) (true-or-false (2 ^ 48 ≤ᵇ q .clock))
     where
-      go : (not (q .side ≤ᵇ 1) ≡ true) ⊎ (not (q .side ≤ᵇ 1) ≡ false) → (2 ^ 48 ≤ᵇ q .clock ≡ true) ⊎ (2 ^ 48 ≤ᵇ q .clock ≡ false) → Refusal q n p
+      go :
+          (not (q .side ≤ᵇ 1) ≡ true) ⊎ (not (q .side ≤ᵇ 1) ≡ false) → (2 ^ 48 ≤ᵇ q .clock ≡ true) ⊎ (2 ^ 48 ≤ᵇ q .clock ≡ false) →
+          Refusal q n p
       go (inl bad) _ = refused-side bad is
       go (inr fine) (inl bad) = refused-clock fine bad is
       go (inr fine) (inr clock-fine) = refused-packet fine clock-fine _ refl (sym (if-false _ _ _ fine ∙ if-false _ _ _ clock-fine) ∙ is)

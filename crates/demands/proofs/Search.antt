@@ -28,7 +28,10 @@ placeOr n (At p) = p
 placeOr n Nothing = n
 
 -- two tests that agree at each place find the same place
-pub first-same : (t : List ℕ) (test : ℕ → Bool) (test' : rows.Entry IPv4 connections → Bool) → ((j : ℕ) → test j ≡ test' (viewEntry (entryAt t (placeAt j)))) → (i k : ℕ) → placeOr (i + k) (firstFrom test i k) ≡ rows.firstFrom IPv4 connections test' i (entriesFrom t i k)
+pub first-same :
+    (t : List ℕ) (test : ℕ → Bool) (test' : rows.Entry IPv4 connections → Bool) →
+    ((j : ℕ) → test j ≡ test' (viewEntry (entryAt t (placeAt j)))) → (i k : ℕ) →
+    placeOr (i + k) (firstFrom test i k) ≡ rows.firstFrom IPv4 connections test' i (entriesFrom t i k)
 unfolding firstFrom rows.firstFrom entriesFrom
 first-same t test test' same i zero = omega arith
 first-same t test test' same i (suc k) =
@@ -37,12 +40,17 @@ first-same t test test' same i (suc k) =
     rest : ℕ
     rest = rows.firstFrom IPv4 connections test' (i + 1) (entriesFrom t (i + 1) k)
 
-    go : (test i ≡ true) ⊎ (test i ≡ false) → placeOr (i + suc k) (firstFrom test (i + 1) k) ≡ rest → placeOr (i + suc k) (if test i then At i else firstFrom test (i + 1) k) ≡ (if test' (viewEntry (entryAt t (placeAt i))) then i else rest)
+    go :
+        (test i ≡ true) ⊎ (test i ≡ false) → placeOr (i + suc k) (firstFrom test (i + 1) k) ≡ rest →
+        placeOr (i + suc k) (if test i then At i else firstFrom test (i + 1) k) ≡ (if test' (viewEntry (entryAt t (placeAt i))) then i else rest)
     go (inl h) later = ap (placeOr (i + suc k)) (if-true _ _ _ h) ∙ sym (if-true _ _ _ (sym (same i) ∙ h))
     go (inr h) later = ap (placeOr (i + suc k)) (if-false _ _ _ h) ∙ later ∙ sym (if-false _ _ _ (sym (same i) ∙ h))
 
 -- from place 0 on
-first-of-all : (t : List ℕ) (test : ℕ → Bool) (test' : rows.Entry IPv4 connections → Bool) → ((j : ℕ) → test j ≡ test' (viewEntry (entryAt t (placeAt j)))) → (k : ℕ) → placeOr k (firstFrom test 0 k) ≡ rows.firstFrom IPv4 connections test' 0 (entriesFrom t 0 k)
+first-of-all :
+    (t : List ℕ) (test : ℕ → Bool) (test' : rows.Entry IPv4 connections → Bool) →
+    ((j : ℕ) → test j ≡ test' (viewEntry (entryAt t (placeAt j)))) → (k : ℕ) →
+    placeOr k (firstFrom test 0 k) ≡ rows.firstFrom IPv4 connections test' 0 (entriesFrom t 0 k)
 first-of-all t test test' same k = ap (λ n. placeOr n (firstFrom test 0 k)) (omega arith) ∙ first-same t test test' same 0 k
 
 -- The tests
@@ -70,7 +78,9 @@ module _ (side clock : ℕ) (f : Flow) (g : Segment) where
   unfolding fromOpener
   opener-same e = ap (λ b. (side =ᵇ e .connection .side) && b) (between-same e (sourceOf f) (destinationOf f))
 
-  pub answerer-same : (e : Entry) → fromAnswerer e side (sourceOf f) (destinationOf f) ≡ rows.fromAnswerer IPv4 connections (viewEntry e) askOf
+  pub answerer-same :
+      (e : Entry) →
+      fromAnswerer e side (sourceOf f) (destinationOf f) ≡ rows.fromAnswerer IPv4 connections (viewEntry e) askOf
   unfolding fromAnswerer
   answerer-same e = ap (λ b. (side =ᵇ 1 - e .connection .side) && b) (between-reversed e (destinationOf f) (sourceOf f))
 
@@ -78,7 +88,9 @@ module _ (side clock : ℕ) (f : Flow) (g : Segment) where
   unfolding senderOf rows.senderOf
   sender-same e = ap (λ b. if b then 0 else 1) (opener-same e)
 
-  pub live-match-same : (t : List ℕ) (now p : ℕ) → liveMatchAt t now side (sourceOf f) (destinationOf f) p ≡ rows.liveMatch IPv4 connections now askOf (viewEntry (entryAt t (placeAt p)))
+  pub live-match-same :
+      (t : List ℕ) (now p : ℕ) →
+      liveMatchAt t now side (sourceOf f) (destinationOf f) p ≡ rows.liveMatch IPv4 connections now askOf (viewEntry (entryAt t (placeAt p)))
   unfolding liveMatchAt rows.matches
   live-match-same t now p = rw (opener-same (entryAt t (placeAt p)), answerer-same (entryAt t (placeAt p)))
 

@@ -14,6 +14,7 @@ use Rattle.octets.specs.Overwrite.{overwrite}
 use Rattle.octets.proofs.Agree.{Agree}
 use Rattle.octets.proofs.Octets.{octets-octetsOf, octets-overwrite}
 use Rattle.connection.specs.Sound.{soundConnection}
+use Rattle.connection.proofs.Sound.{later-sound}
 use Rattle.entry.specs.Layout.{entrySize, placeAt, entryBytes, entryAt}
 use Rattle.entry.specs.Typed.{Typed}
 use Rattle.entry.specs.declared.Entry.{Entry}
@@ -24,12 +25,14 @@ use Rattle.table.proofs.Facts.{SoundPlace, SoundFacts, table-facts, facts-table
 use Rattle.filter.specs.Call.{placesIn, freeEntry, tableAfter}
 use Rattle.filter.specs.Outcome.{Passed}
 use Rattle.filter.proofs.Free.{free-zeros}
-use Rattle.honest.proofs.SoundKept.{later-sound}
 use Rattle.demands.specs.Bytes.{SoundBytes}
 use Rattle.demands.proofs.Frame.{length-after, placesIn-after, clock-after, header-after, place-same, place-other, entry-same}
 
 -- a place with the same bytes stays sound, since the clock only rises
-place-agree : (clock now : ℕ) (l : List ℕ) (at : ℕ) (m : List ℕ) (there : ℕ) → Agree l at m there entrySize → clock ≤ now → SoundPlace clock m there → SoundPlace now l at
+place-agree :
+    (clock now : ℕ) (l : List ℕ) (at : ℕ) (m : List ℕ) (there : ℕ) → Agree l at m there entrySize → clock ≤ now →
+    SoundPlace clock m there →
+    SoundPlace now l at
 place-agree clock now l at m there same later (inl zeros) = inl (λ i h. same i h ∙ zeros i h)
 place-agree clock now l at m there same later (inr f) =
     inr (record {
@@ -38,7 +41,10 @@ place-agree clock now l at m there same later (inr f) =
     })
 
 -- what stands where an entry was written
-written-sound : (now : ℕ) (e : Entry) (t : List ℕ) (at : ℕ) → Agree t at (entryBytes e) 0 entrySize → entryAt t at ≡ e → (e ≡ freeEntry) ⊎ (soundConnection now (e .connection) ≡ true) → SoundPlace now t at
+written-sound :
+    (now : ℕ) (e : Entry) (t : List ℕ) (at : ℕ) → Agree t at (entryBytes e) 0 entrySize → entryAt t at ≡ e →
+    (e ≡ freeEntry) ⊎ (soundConnection now (e .connection) ≡ true) →
+    SoundPlace now t at
 written-sound now e t at same back (inl free) = inl (λ i h. (rw free at same) i h ∙ free-zeros i h)
 written-sound now e t at same back (inr sound) =
     inr (record {
@@ -81,5 +87,8 @@ module _ (t : List ℕ) (p now : ℕ) (e : Entry) (s : SoundBytes t) (inside : p
   bytes-after = record { octets = octets-after; legal = rw (length-after t p now e inside) (s .legal); sound = facts-table after (placesIn after) facts-after }
 
 -- a pass that writes a free entry or a sound one leaves the bytes sound
-pub sound-after : (t : List ℕ) (p now : ℕ) (e : Entry) → SoundBytes t → p < placesIn t → now < 2 ^ 48 → headerClock t ≤ now → Typed e → ((e ≡ freeEntry) ⊎ (soundConnection now (e .connection) ≡ true)) → SoundBytes (tableAfter t (Passed p now e))
+pub sound-after :
+    (t : List ℕ) (p now : ℕ) (e : Entry) → SoundBytes t → p < placesIn t → now < 2 ^ 48 → headerClock t ≤ now → Typed e →
+    ((e ≡ freeEntry) ⊎ (soundConnection now (e .connection) ≡ true)) →
+    SoundBytes (tableAfter t (Passed p now e))
 sound-after t p now e s inside small later typed new = bytes-after t p now e s inside small later typed new

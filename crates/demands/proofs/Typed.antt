@@ -5,11 +5,10 @@ use mathlib.Core.Bool.{true}
 use native.Mathlib.Omega.{arith}
 use Rattle.connection.specs.Sound.{soundConnection, soundEnd}
 use Rattle.connection.specs.declared.End.{End}
+use Rattle.connection.proofs.Sound.{soundFins≤3, soundEnd-true, sound-facts}
 use Rattle.history.specs.Records.{Fits}
-use Rattle.history.proofs.Sound.{sound-facts}
 use Rattle.entry.specs.Typed.{TypedEnd, Typed}
 use Rattle.entry.specs.declared.Entry.{Entry}
-use Rattle.table.proofs.Words.{fins-most, end-known}
 use Rattle.honest.specs.Typed as honest
 use Rattle.honest.specs.IPv4.{Addresses}
 use Rattle.demands.specs.Bytes.{viewEntry}
@@ -30,16 +29,19 @@ typed-fits e typed = record {
 }
 
 typed-end : (x : End) → Fits x → soundEnd x ≡ true → TypedEnd x
-typed-end x fits sound = record { end = fits .end; edge = fits .edge; win = omega (arith, end-known x sound .1) }
+typed-end x fits sound = record { end = fits .end; edge = fits .edge; win = omega (arith, soundEnd-true x sound .1) }
 
 -- a sound connection between two endpoints makes an entry within its types
-pub typed-entry : (now : ℕ) (e : Entry) → soundConnection now (e .connection) ≡ true → now < 2 ^ 48 → honest.Typed (e .connection) → AddressesFit (viewEntry e .key) → Typed e
+pub typed-entry :
+    (now : ℕ) (e : Entry) → soundConnection now (e .connection) ≡ true → now < 2 ^ 48 → honest.Typed (e .connection) →
+    AddressesFit (viewEntry e .key) →
+    Typed e
 typed-entry now e sound small (x, ends) fits =
     let f = sound-facts now (e .connection) sound in
     record {
       stage = omega (arith, f .stage-most);
       side = omega (arith, f .side);
-      fins = omega (arith, fins-most _ _ (f .fins));
+      fins = omega (arith, soundFins≤3 _ _ (f .fins));
       opener-address = fits .source;
       answerer-address = fits .destination;
       opener-port = fits .sourcePort;

@@ -45,7 +45,9 @@ module _ (t : List ℕ) (p now : ℕ) (e : Entry) (inside : p < placesIn t) (sma
       ∙ ap viewEntry (entry-same t p now e inside typed)
       ∙ sym (getD-set-same (viewOf t .entries) p (viewEntry e) noEntry (rw (places-viewOf t) inside))
 
-  others-stay : (q : ℕ) → q < placesIn t → (q ≡ p → ⊥) → getD (viewOf after .entries) q noEntry ≡ getD (set (viewOf t .entries) p (viewEntry e)) q noEntry
+  others-stay :
+      (q : ℕ) → q < placesIn t → (q ≡ p → ⊥) →
+      getD (viewOf after .entries) q noEntry ≡ getD (set (viewOf t .entries) p (viewEntry e)) q noEntry
   others-stay q h differs =
       there-after q h
       ∙ ap viewEntry (entry-other t p now e inside q differs)
@@ -57,7 +59,9 @@ module _ (t : List ℕ) (p now : ℕ) (e : Entry) (inside : p < placesIn t) (sma
       ext-getD noEntry _ _ same-number
       (λ q h. at-place q (rw (places-viewOf after, placesIn-after t p now e inside) at h) (true-or-false (q =ᵇ p)))
     where
-      at-place : (q : ℕ) → q < placesIn t → (q =ᵇ p ≡ true) ⊎ (q =ᵇ p ≡ false) → getD (viewOf after .entries) q noEntry ≡ getD (set (viewOf t .entries) p (viewEntry e)) q noEntry
+      at-place :
+          (q : ℕ) → q < placesIn t → (q =ᵇ p ≡ true) ⊎ (q =ᵇ p ≡ false) →
+          getD (viewOf after .entries) q noEntry ≡ getD (set (viewOf t .entries) p (viewEntry e)) q noEntry
       at-place q h (inl same) = rw (eqb-true q p same) written-there
       at-place q h (inr differs) = others-stay q h (eqb-false q p differs)
 
@@ -67,5 +71,7 @@ module _ (t : List ℕ) (p now : ℕ) (e : Entry) (inside : p < placesIn t) (sma
       λ i. record { clock = clock i; entries = entries-after i }
 
 -- a pass changes only the header clock and that entry
-pub view-after : (t : List ℕ) (p now : ℕ) (e : Entry) → p < placesIn t → now < 2 ^ 48 → Typed e → viewOf (tableAfter t (Passed p now e)) ≡ record { clock = now; entries = set (viewOf t .entries) p (viewEntry e) }
+pub view-after :
+    (t : List ℕ) (p now : ℕ) (e : Entry) → p < placesIn t → now < 2 ^ 48 → Typed e →
+    viewOf (tableAfter t (Passed p now e)) ≡ record { clock = now; entries = set (viewOf t .entries) p (viewEntry e) }
 view-after = view-written

@@ -1,4 +1,4 @@
--- What is stored is read back, and bytes whose zero bytes are zero are those that the entry read from them is stored as.
+-- What is stored is read back, and an entry whose zero bytes are zero is stored as the bytes that it was read from.
 use Prim.Native.Nat.{ℕ, _+_, _^_, _≤_, _<_}
 use mathlib.Core.Path.{_≡_, refl, sym, ap, _∙_}
 use mathlib.Core.List.{List, [], _∷_, _++_}
@@ -37,7 +37,9 @@ module _ (e : Entry) (typed : Typed e) where
   number-back : (n k v : ℕ) → v < 256 ^ n → Stands n k v → bigEndian n (entryBytes e) k ≡ v
   number-back n k v small part = part ∙ bigEndian-octetsOf n v small
 
-  end-back : (k : ℕ) (x : End) → TypedEnd x → Stands 4 k (x .end .0) → Stands 4 (k + 4) (x .edge .0) → Stands 4 (k + 8) (x .win .0) → endAt (entryBytes e) k ≡ x
+  end-back :
+      (k : ℕ) (x : End) → TypedEnd x → Stands 4 k (x .end .0) → Stands 4 (k + 4) (x .edge .0) → Stands 4 (k + 8) (x .win .0) →
+      endAt (entryBytes e) k ≡ x
   end-back k x small end-part edge-part win-part =
       let end = number-back 4 k (x .end .0) (small .end) end-part in
       let edge = number-back 4 (k + 4) (x .edge .0) (small .edge) edge-part in
@@ -76,7 +78,9 @@ load-stored t at e fits typed =
 
 -- Writing what was read
 
-part-append : (t : List ℕ) (n m at next : ℕ) (xs ys : List ℕ) → at + n ≡ next → xs ≡ take n (drop at t) → ys ≡ take m (drop next t) → xs ++ ys ≡ take (n + m) (drop at t)
+part-append :
+    (t : List ℕ) (n m at next : ℕ) (xs ys : List ℕ) → at + n ≡ next → xs ≡ take n (drop at t) → ys ≡ take m (drop next t) →
+    xs ++ ys ≡ take (n + m) (drop at t)
 part-append t n m at next xs ys there first second =
     (λ i. first i ++ second i)
     ∙ ap (λ (k : List ℕ). take n (drop at t) ++ take m k) (ap (λ (k : ℕ). drop k t) (sym there) ∙ sym (drop-drop n at t))
@@ -93,7 +97,7 @@ end-part t at fits octets =
     let win = octetsOf-bigEndian 4 t (at + 8) (omega arith) octets in
     part-append t 4 8 at (at + 4) _ _ refl end (part-append t 4 4 (at + 4) (at + 8) _ _ (omega arith) edge win)
 
--- an entry re-encodes to its bytes, given that its zero bytes are zero
+-- an entry whose zero bytes are zero re-encodes to its bytes
 module _ (t : List ℕ) (at : ℕ) (fits : at + entrySize ≤ length t) (octets : Octets t) where
   numbers-part : numbersBytes (connectionAt t at) ≡ take 32 (drop (at + 16) t)
   unfolding numbersBytes connectionAt

@@ -1,4 +1,4 @@
--- An entry stored and loaded (document 01, "The table").
+-- An entry and its bytes (document 01, "The table").
 use Prim.Native.Nat.{ℕ, _+_, _≤_}
 use mathlib.Core.Path.{_≡_}
 use mathlib.Core.List.{List}
@@ -8,7 +8,7 @@ use Rattle.entry.specs.Layout.{entrySize, entryAt, entryBytes}
 use Rattle.entry.specs.Typed.{Typed}
 use Rattle.entry.specs.declared.Entry.{Entry}
 
--- what is stored is read back
+-- an entry within its types, stored at an offset, is what is read there
 abbrev pub StoredIsRead : Type 0
 StoredIsRead =
     (t : List ℕ) (at : ℕ) (e : Entry) → at + entrySize ≤ length t → Typed e →

@@ -49,7 +49,7 @@ reply≡replyOf (Passed p now e) = refl
 
 -- The outcome of a call
 
-module _ (t : List ℕ) (long : 128 ≤ length t) (short : length t ≤ 32832) where
+module _ (t : List ℕ) (long : placeAt 1 ≤ length t) (short : length t ≤ placeAt 512) where
   place-within : (test : ℕ → Bool) (p now : ℕ) (e : Entry) → firstFrom test 0 (placesIn t) ≡ At p → Within t (Passed p now e)
   place-within test p now e found = let h = found-passes test (placesIn t) 0 p found .2 in (omega (arith, h), omega (arith, h))
 
@@ -99,7 +99,9 @@ pub decision-fits : (side clock : ℕ) (t packet : List ℕ) (d : Decision) → 
 decision-fits side clock t packet d e = rw e (within-fits t (outcomeOf side clock t packet) (outcome-within side clock t packet))
 
 -- an answer is at most 15, and a place at most 65,535
-pub reply-small : (side clock : ℕ) (t packet : List ℕ) → (replyOf (outcomeOf side clock t packet) .answer ≤ 15) × (replyOf (outcomeOf side clock t packet) .place ≤ 65535)
+pub reply-small :
+    (side clock : ℕ) (t packet : List ℕ) →
+    (replyOf (outcomeOf side clock t packet) .answer ≤ 15) × (replyOf (outcomeOf side clock t packet) .place ≤ 65535)
 reply-small side clock t packet = go (outcomeOf side clock t packet) (outcome-within side clock t packet)
   where
     go : (o : Outcome) → Within t o → (replyOf o .answer ≤ 15) × (replyOf o .place ≤ 65535)

@@ -17,7 +17,7 @@ use Rattle.connection.specs.Decision.{verdictOn, verdictNumber, free, opened, p
 use Rattle.connection.specs.declared.Connection.{Connection}
 use Rattle.connection.specs.declared.Verdict.{Verdict}
 use Rattle.connection.specs.declared.Verdict.the-variants.{Pass, NotAllowed, SequenceMissed, AckMissed}
-use Rattle.entry.specs.Layout.{entrySize, placeAt, entryAt, entryBytes}
+use Rattle.entry.specs.Layout.{headerSize, entrySize, placeAt, entryAt, entryBytes}
 use Rattle.entry.specs.declared.Endpoint.{Endpoint}
 use Rattle.entry.specs.declared.Entry.{Entry}
 use Rattle.table.specs.Table.{firstFrom, headerClock, soundTable, fromOpener, liveMatchAt, vacantAt}
@@ -30,11 +30,11 @@ use Rattle.filter.specs.declared.Reply.{Reply}
 
 -- table length is 64·(n+1) with n from 1 to 512
 unfoldable pub legalLength : ℕ → Bool
-legalLength l = (l % entrySize =ᵇ 0) && ((placeAt 1 ≤ᵇ l) && (l ≤ᵇ placeAt 512))
+legalLength l = ((l - headerSize) % entrySize =ᵇ 0) && ((placeAt 1 ≤ᵇ l) && (l ≤ᵇ placeAt 512))
 
--- n
+-- n: the entries after the header
 abbrev pub placesIn : List ℕ → ℕ
-placesIn t = length t / entrySize - 1
+placesIn t = (length t - headerSize) / entrySize
 
 -- clock used: the larger of the one given and the header's
 abbrev pub clockUsed : List ℕ → ℕ → ℕ

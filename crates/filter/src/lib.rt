@@ -2,7 +2,7 @@
 ghost use mathlib.Core.Path.{_≡_};
 ghost use Prim.Native.Nat.{_^_, _≤_, _<_};
 ghost use lib.ListN.{length};
-ghost use Rattle.entry.specs.Layout.{placeAt};
+ghost use Rattle.entry.specs.Layout.{headerSize, placeAt};
 ghost use Rattle.packet.specs.Read.{readPacket};
 ghost use Rattle.filter.specs.Call.{legalLength, placesIn, clockUsed, sourceOf, destinationOf, freeEntry, entryWith, senderOf, onEntry, openingEntry, unmatched, onSegment, onPacket, outcomeOf, replyOf, tableAfter};
 ghost use Rattle.filter.specs.Decision.{decisionOf, written, Fits};
@@ -157,9 +157,7 @@ fn on_entry(
     let after = decided.connection;
     match verdict {
         Verdict::Pass => passed(place, clock, entry_after(entry, segment, after)),
-        Verdict::NotAllowed => blocked(13),
-        Verdict::SequenceMissed => blocked(14),
-        Verdict::AckMissed => blocked(15),
+        _ => blocked(verdict.number()),
     }
 }
 
@@ -243,18 +241,19 @@ fn commit(table: &mut [u8], decision: Decision)
 fn legal_length(n: usize) -> bool
     ensures { λ r. ⌜ r ≡ legalLength n ⌝ }
 {
-    if n % 64 != 0 {
-        return false;
-    }
     if n < 128 {
         return false;
     }
-    n <= 32832
+    let entries = n - 64;
+    if entries % 64 != 0 {
+        return false;
+    }
+    n <= 32_832
 }
 
 // The larger of the clock given and the header's.
 fn clock_used(table: &[u8], given: u64) -> u64
-    requires { ⌜ 64 ≤ length (now table) ⌝ }
+    requires { ⌜ headerSize ≤ length (now table) ⌝ }
     ensures { λ r. ⌜ r ≡ clockUsed (now (table .entry)) given ⌝ }
 {
     let header = table::clock(table);
@@ -289,7 +288,7 @@ fn decide(side: u8, clock: u64, table: &[u8], packet: &[u8]) -> Decision
     if !legal_length(table.len()) {
         return blocked(3);
     }
-    let places = table.len() / 64 - 1;
+    let places = (table.len() - 64) / 64;
     if !sound(table, places) {
         return blocked(4);
     }

@@ -112,7 +112,9 @@ module _ (c : Connection) (h : List LineSegment) (holds : Holds c h) (reached : 
     on-wire-holds : Reached h → Holds (passed c (o .sender) (onWire (onLine h o)) (o .now)) (onLine h o ∷ h) × Reached (onLine h o ∷ h)
     on-wire-holds (unanswered u turned) = by-sender (eqb (o .sender) 0) refl
       where
-        by-sender : (t : Bool) → eqb (o .sender) 0 ≡ t → Holds (passed c (o .sender) (onWire (onLine h o)) (o .now)) (onLine h o ∷ h) × Reached (onLine h o ∷ h)
+        by-sender :
+            (t : Bool) → eqb (o .sender) 0 ≡ t →
+            Holds (passed c (o .sender) (onWire (onLine h o)) (o .now)) (onLine h o ∷ h) × Reached (onLine h o ∷ h)
         by-sender true e =
             let opener = eqb-true (o .sender) 0 e in (
               repeated-holds c h holds (onLine h o) formed pass u opener (o .now),
@@ -142,7 +144,9 @@ reset-frees c o reset = if-= _ _ reset
 
 module _ (c : Connection) (h : List LineSegment) (holds : Holds c h) (reached : Reached h) (o : Presented) (legal : Legal o) where
   module _ (no-reset : judgedOver h o ≡ Pass → rst (o .segment .flags) ≡ 1 → ⊥) where
-    by-answer : (v : Verdict) → judgedOver h o ≡ v → let h' = if passes v then onLine h o ∷ h else h in Holds (if passes v then leftBy c o else c) h' × Reached h'
+    by-answer :
+        (v : Verdict) → judgedOver h o ≡ v →
+        let h' = if passes v then onLine h o ∷ h else h in Holds (if passes v then leftBy c o else c) h' × Reached h'
     unfolding if_then_else_
     by-answer Pass e = pass-holds c h holds reached o legal (no-reset e) e
     by-answer NotAllowed e = (holds, reached)
@@ -155,7 +159,9 @@ module _ (c : Connection) (h : List LineSegment) (holds : Holds c h) (reached : 
   pub agree : Agree c h o
   agree = record { holds = holds; answer = judged c h holds reached o legal; freed = λ pass reset. reset-frees c o reset }
 
-pub after-all : (c : Connection) (h : List LineSegment) → Holds c h → Reached h → (l : List Presented) → AllLegal l → NoReset h l → Holds (connectionAfter c l) (historyAfter h l) × Reached (historyAfter h l)
+pub after-all :
+    (c : Connection) (h : List LineSegment) → Holds c h → Reached h → (l : List Presented) → AllLegal l → NoReset h l →
+    Holds (connectionAfter c l) (historyAfter h l) × Reached (historyAfter h l)
 unfolding AllLegal NoReset connectionAfter historyAfter
 after-all c h holds reached [] legal no-reset = (holds, reached)
 after-all c h holds reached (o ∷ l) legal no-reset =

@@ -15,14 +15,15 @@ use Rattle.segment.specs.Flags.{fin, syn, rst, ack, SYN, SYN+ACK, ACK+RST}
 use Rattle.segment.specs.declared.Segment.{Segment}
 use Rattle.connection.specs.Ends.{unheard, sender, sent, granted, opening, written}
 use Rattle.connection.specs.Ranges.{ackRange}
-use Rattle.connection.specs.Stages.{finsAfter, openStage, stageAfter}
+use Rattle.connection.specs.Stages.{finsAfter, stageAfter}
 use Rattle.connection.specs.Decision.{opened, repeated, answered, carried, passed}
 use Rattle.connection.specs.declared.Connection.{Connection}
 use Rattle.connection.specs.declared.End.{End}
 use Rattle.connection.specs.declared.Verdict.the-variants.{Pass, NotAllowed, SequenceMissed, AckMissed}
-use Rattle.history.specs.Numbers.{Numbers, onRing, boundsI-II, boundsIII-IV, sentTo, grantedTo, Spans}
+use Rattle.connection.proofs.Stages.{stageAfter≥2}
+use Rattle.history.specs.Numbers.{Numbers, onRing, boundsI-II, boundsIII-IV}
 use Rattle.history.specs.History.{LineSegment, endBy, edgeBy, windowBy, numbersOf, onWire, stageOf, finsOf, sameSynOnLine, replyOnLine, judgeUnanswered, judge, Holds, Formed}
-use Rattle.history.proofs.Step.{ack-near, ackRange-small, sent-line, granted-line, sentTo-spans, grantedTo-spans}
+use Rattle.history.proofs.Step.{sentTo, grantedTo, Spans, ack-near, ackRange-small, sent-line, granted-line, sentTo-spans, grantedTo-spans}
 use Rattle.history.proofs.Verdict.{Unanswered, Answered, spans}
 
 -- The numbers with one more segment
@@ -35,7 +36,9 @@ module _ (h : List LineSegment) (p : LineSegment) (no-reset : rst (p .flags) ≡
   uncounted i e = rw (ne-eqb (p .from) i e)
 
   -- its sender's: a SYN's end is no further than the edge
-  pub numbers-sender : (i : ℕ) → p .from ≡ i → p .start + p .length ≤ numbersOf i h .edge → numbersOf i (p ∷ h) ≡ sentTo (numbersOf i h) (p .start + p .length) (p .window)
+  pub numbers-sender :
+      (i : ℕ) → p .from ≡ i → p .start + p .length ≤ numbersOf i h .edge →
+      numbersOf i (p ∷ h) ≡ sentTo (numbersOf i h) (p .start + p .length) (p .window)
   unfolding numbersOf
   numbers-sender i mine inside =
       let end : endBy i p ≡ p .start + p .length = if-true _ _ _ (counted i mine) in
@@ -45,7 +48,9 @@ module _ (h : List LineSegment) (p : LineSegment) (no-reset : rst (p .flags) ≡
       λ k. record { end = ap (max (numbersOf i h .end)) end k; edge = edge k; win = ap (max (numbersOf i h .win)) win k }
 
   -- a SYN's sender's, whatever its edge was
-  pub numbers-syn : (i : ℕ) → p .from ≡ i → syn (p .flags) ≡ 1 → numbersOf i (p ∷ h) ≡ record { end = max (numbersOf i h .end) (p .start + p .length); edge = max (numbersOf i h .edge) (p .start + p .length); win = max (numbersOf i h .win) (p .window) }
+  pub numbers-syn :
+      (i : ℕ) → p .from ≡ i → syn (p .flags) ≡ 1 →
+      numbersOf i (p ∷ h) ≡ record { end = max (numbersOf i h .end) (p .start + p .length); edge = max (numbersOf i h .edge) (p .start + p .length); win = max (numbersOf i h .win) (p .window) }
   unfolding numbersOf
   numbers-syn i mine a-syn =
       let end : endBy i p ≡ p .start + p .length = if-true _ _ _ (counted i mine) in
@@ -54,7 +59,9 @@ module _ (h : List LineSegment) (p : LineSegment) (no-reset : rst (p .flags) ≡
       λ k. record { end = ap (max (numbersOf i h .end)) end k; edge = ap (max (numbersOf i h .edge)) edge k; win = ap (max (numbersOf i h .win)) win k }
 
   -- the other end's, by an acknowledgement and without one
-  pub numbers-acked : (i : ℕ) → (p .from ≡ i → ⊥) → ack (p .flags) ≡ 1 → numbersOf i (p ∷ h) ≡ grantedTo (numbersOf i h) (p .acked + max (p .window) 1)
+  pub numbers-acked :
+      (i : ℕ) → (p .from ≡ i → ⊥) → ack (p .flags) ≡ 1 →
+      numbersOf i (p ∷ h) ≡ grantedTo (numbersOf i h) (p .acked + max (p .window) 1)
   unfolding numbersOf
   numbers-acked i theirs acks =
       let end : max (numbersOf i h .end) (endBy i p) ≡ numbersOf i h .end = ap (max (numbersOf i h .end)) (if-false _ _ _ (uncounted i theirs)) ∙ omega arith in
@@ -72,34 +79,34 @@ module _ (h : List LineSegment) (p : LineSegment) (no-reset : rst (p .flags) ≡
 
 -- What is written, from what becomes of F and of T
 
-pub written-acked : (x y : ℕ → End) (i : ℕ) (g : Segment) → i < 2 → ack (g .flags) ≡ 1 → sent (x i) g ≡ y i → granted (x (1 - i)) g ≡ y (1 - i) → written (x 0 ∷ x 1 ∷ []) i g ≡ y 0 ∷ y 1 ∷ []
+pub written-acked :
+    (x y : ℕ → End) (i : ℕ) (g : Segment) → i < 2 → ack (g .flags) ≡ 1 → sent (x i) g ≡ y i → granted (x (1 - i)) g ≡ y (1 - i) →
+    written (x 0 ∷ x 1 ∷ []) i g ≡ y 0 ∷ y 1 ∷ []
 unfolding written
 written-acked x y zero g side acks f t = if-= _ _ acks ∙ λ k. f k ∷ t k ∷ []
 written-acked x y (suc zero) g side acks f t = if-= _ _ acks ∙ λ k. t k ∷ f k ∷ []
 written-acked x y (suc (suc i)) g side acks f t = absurd (omega arith)
 
-pub written-unacked : (x y : ℕ → End) (i : ℕ) (g : Segment) → i < 2 → (ack (g .flags) ≡ 1 → ⊥) → sent (x i) g ≡ y i → x (1 - i) ≡ y (1 - i) → written (x 0 ∷ x 1 ∷ []) i g ≡ y 0 ∷ y 1 ∷ []
+pub written-unacked :
+    (x y : ℕ → End) (i : ℕ) (g : Segment) → i < 2 → (ack (g .flags) ≡ 1 → ⊥) → sent (x i) g ≡ y i → x (1 - i) ≡ y (1 - i) →
+    written (x 0 ∷ x 1 ∷ []) i g ≡ y 0 ∷ y 1 ∷ []
 unfolding written
 written-unacked x y zero g side silent f t = if-=-not _ _ silent ∙ λ k. f k ∷ t k ∷ []
 written-unacked x y (suc zero) g side silent f t = if-=-not _ _ silent ∙ λ k. t k ∷ f k ∷ []
 written-unacked x y (suc (suc i)) g side silent f t = absurd (omega arith)
 
-both : (x : ℕ → Numbers) (i : ℕ) → i < 2 → Spans (x i) → Spans (x (1 - i)) → Spans (x 0) × Spans (x 1)
-both x zero side f t = (f, t)
-both x (suc zero) side f t = (t, f)
-both x (suc (suc i)) side f t = absurd (omega arith)
+spans-of-both : (x : ℕ → Numbers) (i : ℕ) → i < 2 → Spans (x i) → Spans (x (1 - i)) → Spans (x 0) × Spans (x 1)
+spans-of-both x zero side f t = (f, t)
+spans-of-both x (suc zero) side f t = (t, f)
+spans-of-both x (suc (suc i)) side f t = absurd (omega arith)
 
 -- a later segment never leads back to stage 1
-pub stageAfter≥2 : (stage fins i f : ℕ) → 2 ≤ stageAfter stage fins i f
-unfolding stageAfter openStage
-stageAfter≥2 stage fins i f =
-    if-either (λ n. 2 ≤ n) _ _ _ (omega arith)
-    (if-either (λ n. 2 ≤ n) _ _ _ (omega arith) (if-either (λ n. 2 ≤ n) _ _ _ (omega arith) (if-either (λ n. 2 ≤ n) _ _ _ (omega arith) (omega arith))))
-
 -- From stage 2 on
 
 -- a verdict of Pass says that the ranges were met
-pub ranges-met : (x a y : Bool) → (if not x then SequenceMissed else if a && not y then AckMissed else Pass) ≡ Pass → (x ≡ true) × (a ≡ true → y ≡ true)
+pub ranges-met :
+    (x a y : Bool) → (if not x then SequenceMissed else if a && not y then AckMissed else Pass) ≡ Pass →
+    (x ≡ true) × (a ≡ true → y ≡ true)
 unfolding if_then_else_
 ranges-met true true true e = (refl, λ t. refl)
 ranges-met true true false e = false-true cc
@@ -166,7 +173,9 @@ module _ (c : Connection) (h : List LineSegment) (holds : Holds c h) (p : LineSe
     records-after : written (onRing (numbersOf 0 h) ∷ onRing (numbersOf 1 h) ∷ []) (p .from) (onWire p) ≡ onRing (numbersOf 0 (p ∷ h)) ∷ onRing (numbersOf 1 (p ∷ h)) ∷ []
     records-after = by-ack (eqb (ack (p .flags)) 1) refl
       where
-        by-ack : (t : Bool) → eqb (ack (p .flags)) 1 ≡ t → written (onRing (numbersOf 0 h) ∷ onRing (numbersOf 1 h) ∷ []) (p .from) (onWire p) ≡ onRing (numbersOf 0 (p ∷ h)) ∷ onRing (numbersOf 1 (p ∷ h)) ∷ []
+        by-ack :
+            (t : Bool) → eqb (ack (p .flags)) 1 ≡ t →
+            written (onRing (numbersOf 0 h) ∷ onRing (numbersOf 1 h) ∷ []) (p .from) (onWire p) ≡ onRing (numbersOf 0 (p ∷ h)) ∷ onRing (numbersOf 1 (p ∷ h)) ∷ []
         by-ack true e =
             let acks = eqb-true (ack (p .flags)) 1 e in
             written-acked (λ k. onRing (numbersOf k h)) (λ k. onRing (numbersOf k (p ∷ h))) (p .from) (onWire p) side acks sender-after (acked-after acks)
@@ -194,7 +203,7 @@ module _ (c : Connection) (h : List LineSegment) (holds : Holds c h) (p : LineSe
 
     pub carried-answered : Answered (p ∷ h)
     carried-answered =
-        let ends = both (λ k. numbersOf k (p ∷ h)) (p .from) side sender-spans other-spans in
+        let ends = spans-of-both (λ k. numbersOf k (p ∷ h)) (p .from) side sender-spans other-spans in
         record {
           stage = rw (← stage-after) (stageAfter≥2 (c .stage) (finsAfter (c .fins) (p .from) (p .flags)) (p .from) (p .flags));
           opener = ends .0;
@@ -241,7 +250,9 @@ syn-ack f no-reset e = by (eqb f SYN+ACK) refl e
     by false p q = absurd (no-reset (rw (eqb-true f ACK+RST q)))
 
 -- the record that a SYN opens
-pub opening-line : (p : LineSegment) → opening (onWire p) ≡ onRing (record { end = p .start + 1; edge = p .start + 1; win = max 1 (p .window) })
+pub opening-line :
+    (p : LineSegment) →
+    opening (onWire p) ≡ onRing (record { end = p .start + 1; edge = p .start + 1; win = max 1 (p .window) })
 opening-line p =
     let win : max (p .window) 1 ≡ max 1 (p .window) = omega arith in
     λ k. record { end = record { 0 = wrap-plus (p .start) 1 k }; edge = record { 0 = wrap-plus (p .start) 1 k }; win = record { 0 = win k } }

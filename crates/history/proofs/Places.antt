@@ -60,7 +60,9 @@ missed-15 true = ((λ e. false-true cc), (λ e. false-true (sym e)))
 missed-15 false = ((λ e. refl), (λ e. refl))
 
 -- a test at the one place where it can hold fails exactly where it holds nowhere
-nowhere : (P : ℕ → Bool) (s X : ℕ) → wrap X ≡ s → ((S : ℕ) → wrap S ≡ s → P S ≡ true → S ≡ X) → (P X ≡ false) ↔ ((S : ℕ) → wrap S ≡ s → P S ≡ true → ⊥)
+nowhere :
+    (P : ℕ → Bool) (s X : ℕ) → wrap X ≡ s → ((S : ℕ) → wrap S ≡ s → P S ≡ true → S ≡ X) →
+    (P X ≡ false) ↔ ((S : ℕ) → wrap S ≡ s → P S ≡ true → ⊥)
 nowhere P s X here only = (
   (λ (miss : P X ≡ false) (S : ℕ) (at-s : wrap S ≡ s) (met : P S ≡ true). false-true (sym miss ∙ ap P (sym (only S at-s met)) ∙ met)),
   (λ none. not-true-false (P X) (none X here)),
@@ -109,7 +111,9 @@ module _ (c : Connection) (h : List LineSegment) (holds : Holds c h) (both-heard
       )
 
   -- with ACK, and where a place meets I and II: 15 exactly where no place with its acknowledgement number meets III and IV
-  pub no-place-15 : ack (g .flags) ≡ 1 → (S : ℕ) → wrap S ≡ g .seq .0 → boundsI-II (numbersOf i h) (numbersOf (1 - i) h) S (g .octets .0) ≡ true → (verdictOn c i g ≡ AckMissed) ↔ ((A : ℕ) → wrap A ≡ g .ack .0 → boundsIII-IV ackRange (numbersOf (1 - i) h) A ≡ true → ⊥)
+  pub no-place-15 :
+      ack (g .flags) ≡ 1 → (S : ℕ) → wrap S ≡ g .seq .0 → boundsI-II (numbersOf i h) (numbersOf (1 - i) h) S (g .octets .0) ≡ true →
+      (verdictOn c i g ≡ AckMissed) ↔ ((A : ℕ) → wrap A ≡ g .ack .0 → boundsIII-IV ackRange (numbersOf (1 - i) h) A ≡ true → ⊥)
   no-place-15 acks S at-s met =
       let x : boundsI-II F T start (g .octets .0) ≡ true = ap (λ (X : ℕ). boundsI-II F T X (g .octets .0)) (sym (start-is S at-s met)) ∙ met in
       let by-ack = rw (x, eq-eqb (ack (g .flags)) 1 acks) at by-ranges in

@@ -9,8 +9,24 @@ use Rattle.serial.proofs.Ring.{range-wrap, range-unwrap, ack-wrap, ack-unwrap, 
 use Rattle.serial.proofs.Serial.{further-wrap}
 use Rattle.connection.specs.Ends.{sent, granted, segmentEnd, rightEdge}
 use Rattle.connection.specs.Ranges.{sequenceMet, ackRange, ackMet, widest}
-use Rattle.history.specs.Numbers.{Numbers, onRing, boundsI-II, boundsIII-IV, sentTo, grantedTo, Spans}
+use Rattle.history.specs.Numbers.{Numbers, onRing, boundsI-II, boundsIII-IV}
 use Rattle.history.specs.History.{LineSegment, onWire}
+
+-- what a pass makes of the sender's numbers
+abbrev pub sentTo : Numbers → ℕ → ℕ → Numbers
+sentTo F end w = record { end = max (F .end) end; edge = F .edge; win = max (F .win) w }
+
+-- and of the other end's, for a right edge that it grants
+abbrev pub grantedTo : Numbers → ℕ → Numbers
+grantedTo T edge = record { end = T .end; edge = max (T .edge) edge; win = T .win }
+
+-- numbers as they stand from an end's SYN on: the edge is ahead of the end by no more than the largest window
+pub record Spans (x : Numbers) : Type 0 where
+  pub begun : 1 ≤ x .end
+  pub ordered : x .end ≤ x .edge
+  pub near : x .edge ≤ x .end + widest
+  pub win-some : 1 ≤ x .win
+  pub win-most : x .win ≤ widest
 
 -- S lies within half a turn of E
 pub record Near (E S : ℕ) : Type 0 where
@@ -40,7 +56,9 @@ module _ (F T : Numbers) (f : Spans F) (t : Spans T) (p : LineSegment) where
       (b .1, b .0))
       (λ high low. range-wrap (F .end) (F .edge) (T .win) (p .start) (p .length) (omega (arith, t .win-most)) (omega (arith, f .near)) low high)
 
-  pub sent-line : F .end ≤ p .start + T .win → p .start + p .length ≤ F .edge → sent (onRing F) (onWire p) ≡ onRing (sentTo F (p .start + p .length) (p .window))
+  pub sent-line :
+      F .end ≤ p .start + T .win → p .start + p .length ≤ F .edge →
+      sent (onRing F) (onWire p) ≡ onRing (sentTo F (p .start + p .length) (p .window))
   unfolding sent
   sent-line low high =
       let there : segmentEnd (onWire p) ≡ seqAt (p .start + p .length) = λ i. record { 0 = wrap-plus (p .start) (p .length) i } in
@@ -61,7 +79,9 @@ module _ (T : Numbers) (t : Spans T) (p : LineSegment) where
       (ack-unwrap (T .end) (p .acked) range small (near .low) (near .high))
       (ack-wrap (T .end) (p .acked) range small)
 
-  pub granted-line : Near (T .end) (p .acked) → p .acked ≤ T .end → p .window ≤ widest → granted (onRing T) (onWire p) ≡ onRing (grantedTo T (p .acked + max (p .window) 1))
+  pub granted-line :
+      Near (T .end) (p .acked) → p .acked ≤ T .end → p .window ≤ widest →
+      granted (onRing T) (onWire p) ≡ onRing (grantedTo T (p .acked + max (p .window) 1))
   unfolding granted
   granted-line near high small =
       let there : rightEdge (onWire p) ≡ seqAt (p .acked + max (p .window) 1) = λ i. record { 0 = wrap-plus (p .acked) (max (p .window) 1) i } in

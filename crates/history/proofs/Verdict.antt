@@ -17,9 +17,9 @@ use Rattle.connection.specs.Ranges.{sequenceMet, ackRange, ackMet}
 use Rattle.connection.specs.Decision.{sameSyn, reply, verdictUnanswered, verdictByRanges, verdictOn}
 use Rattle.connection.specs.declared.Connection.{Connection}
 use Rattle.connection.specs.declared.End.{End}
-use Rattle.history.specs.Numbers.{onRing, boundsI-II, boundsIII-IV, Spans}
+use Rattle.history.specs.Numbers.{onRing, boundsI-II, boundsIII-IV}
 use Rattle.history.specs.History.{LineSegment, numbersOf, stageOf, finsOf, onWire, sameSynOnLine, replyOnLine, judgeUnanswered, judge, Holds}
-use Rattle.history.proofs.Step.{Near, sequence-line, ackRange-small, ack-line}
+use Rattle.history.proofs.Step.{Spans, Near, sequence-line, ackRange-small, ack-line}
 
 -- where a history stands: the opening SYN unanswered, or both ends heard
 pub record Unanswered (h : List LineSegment) : Type 0 where
@@ -70,7 +70,9 @@ module _ (c : Connection) (h : List LineSegment) (holds : Holds c h) (p : LineSe
     ack-judged : ((ack (p .flags) =ᵇ 1) && not (ackMet ackRange (other (c .ends) (p .from)) (onWire p))) ≡ ((ack (p .flags) =ᵇ 1) && not (boundsIII-IV ackRange (numbersOf (1 - p .from) h) (p .acked)))
     ack-judged = by-ack (eqb (ack (p .flags)) 1) refl
       where
-        by-ack : (t : Bool) → eqb (ack (p .flags)) 1 ≡ t → (t && not (ackMet ackRange (other (c .ends) (p .from)) (onWire p))) ≡ (t && not (boundsIII-IV ackRange (numbersOf (1 - p .from) h) (p .acked)))
+        by-ack :
+            (t : Bool) → eqb (ack (p .flags)) 1 ≡ t →
+            (t && not (ackMet ackRange (other (c .ends) (p .from)) (onWire p))) ≡ (t && not (boundsIII-IV ackRange (numbersOf (1 - p .from) h) (p .acked)))
         by-ack true e =
             rw (holds .ends, two-other (λ k. onRing (numbersOf k h)) (p .from) side)
             (ap not (ack-line (numbersOf (1 - p .from) h) T p ackRange ackRange-small (acked (eqb-true _ _ e))))
@@ -104,7 +106,9 @@ module _ (c : Connection) (h : List LineSegment) (holds : Holds c h) (p : LineSe
     unfolding sameSyn sameSynOnLine
     same-syn = by-opener (eqb (p .from) 0) refl
       where
-        by-opener : (t : Bool) → eqb (p .from) 0 ≡ t → (t && ((p .flags =ᵇ SYN) && (wrap (p .start) =ᵇ ringMinus (sender (c .ends) 0 .end .0) 1))) ≡ (t && ((p .flags =ᵇ SYN) && (p .start + 1 =ᵇ numbersOf 0 h .end)))
+        by-opener :
+            (t : Bool) → eqb (p .from) 0 ≡ t →
+            (t && ((p .flags =ᵇ SYN) && (wrap (p .start) =ᵇ ringMinus (sender (c .ends) 0 .end .0) 1))) ≡ (t && ((p .flags =ᵇ SYN) && (p .start + 1 =ᵇ numbersOf 0 h .end)))
         by-opener true e = rw (holds .ends, syn-again (eqb-true _ _ e))
         by-opener false e = refl
 
@@ -115,7 +119,9 @@ module _ (c : Connection) (h : List LineSegment) (holds : Holds c h) (p : LineSe
         flags : Bool
         flags = (p .flags =ᵇ SYN+ACK) || (p .flags =ᵇ ACK+RST)
 
-        by-answerer : (t : Bool) → eqb (p .from) 1 ≡ t → (t && ((wrap (p .acked) =ᵇ sender (c .ends) 0 .end .0) && flags)) ≡ (t && ((p .acked =ᵇ numbersOf 0 h .end) && flags))
+        by-answerer :
+            (t : Bool) → eqb (p .from) 1 ≡ t →
+            (t && ((wrap (p .acked) =ᵇ sender (c .ends) 0 .end .0) && flags)) ≡ (t && ((p .acked =ᵇ numbersOf 0 h .end) && flags))
         by-answerer true e = rw (holds .ends, acks-syn (eqb-true _ _ e))
         by-answerer false e = refl
 

@@ -6,7 +6,7 @@ use mathlib.Core.List.{List, [], _∷_}
 use Rattle.choice.specs.Choice.{if_then_else_, _=ᵇ_, _≠ᵇ_}
 use Rattle.serial.specs.Ring.{nearest}
 use Rattle.serial.specs.Serial.{seqAt}
-use Rattle.segment.specs.Flags.{syn, rst, isReset, ack, SYN, SYN+ACK, ACK+RST}
+use Rattle.segment.specs.Flags.{syn, isReset, ack, SYN, SYN+ACK, ACK+RST}
 use Rattle.segment.specs.declared.Segment.{Segment}
 use Rattle.connection.specs.Ends.{count, effectiveWindow}
 use Rattle.connection.specs.Ranges.{ackRange, widest}
@@ -74,8 +74,9 @@ stageOf (g ∷ h) =
 
 -- The next segment
 
--- where a sequence number stands beside an end at E: at the whole number nearest. 0: nothing of this end has passed; a real end
--- is 2^32 + 1 or more. The first of a line may stand anywhere; a turn up, nothing on the line ever falls below zero
+-- the place on the line of sequence number s, for an end whose highest end so far is E: the whole number nearest to E that has
+-- it. E = 0 says that nothing of this end has passed (a real E is above 2^32); its first number may stand anywhere and is put
+-- at s + 2^32, so that nothing falls below zero
 abbrev pub standsBy : ℕ → ℕ → ℕ
 standsBy E s = if E =ᵇ 0 then s + 2 ^ 32 else nearest E s
 

@@ -1,10 +1,9 @@
 -- The three numbers of an end on the unwrapped line, and bounds I to IV over them (document 000, with document 01's numbers).
-use Prim.Native.Nat.{ℕ, _+_, _≤_, max}
+use Prim.Native.Nat.{ℕ, _+_}
 use mathlib.Core.Bool.{Bool, _&&_}
 use Rattle.choice.specs.Choice.{_≤ᵇ_}
 use Rattle.serial.specs.Serial.{seqAt}
 use Rattle.connection.specs.Ends.{count}
-use Rattle.connection.specs.Ranges.{widest}
 use Rattle.connection.specs.declared.End.{End}
 
 -- highest sequence end, highest right edge, largest window
@@ -24,19 +23,3 @@ boundsI-II F T S n = (S + n ≤ᵇ F .edge) && (F .end ≤ᵇ S + T .win)
 -- III and IV, for an acknowledgement of A: A ≤ T's end, and T's end ≤ A + range
 abbrev pub boundsIII-IV : ℕ → Numbers → ℕ → Bool
 boundsIII-IV range T A = (A ≤ᵇ T .end) && (T .end ≤ᵇ A + range)
-
--- what a pass makes of the sender's numbers
-abbrev pub sentTo : Numbers → ℕ → ℕ → Numbers
-sentTo F end w = record { end = max (F .end) end; edge = F .edge; win = max (F .win) w }
-
--- and of the other end's, for a right edge that it grants
-abbrev pub grantedTo : Numbers → ℕ → Numbers
-grantedTo T edge = record { end = T .end; edge = max (T .edge) edge; win = T .win }
-
--- numbers as they stand from an end's SYN on: the edge is ahead of the end by no more than the largest window
-pub record Spans (x : Numbers) : Type 0 where
-  pub begun : 1 ≤ x .end
-  pub ordered : x .end ≤ x .edge
-  pub near : x .edge ≤ x .end + widest
-  pub win-some : 1 ≤ x .win
-  pub win-most : x .win ≤ widest

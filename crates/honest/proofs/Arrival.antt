@@ -7,15 +7,15 @@ use native.Mathlib.Omega.{arith}
 use lib.Dec.{eqb}
 use lib.ListN.{length}
 use borrow.Author.Tests.{eqb-true, eqb-false}
-use Rattle.choice.specs.Choice.{if_then_else_}
 use Rattle.choice.proofs.Choice.{if-either, if-=-not}
 use Rattle.segment.specs.Flags.{rst, ack}
 use Rattle.segment.specs.declared.Segment.{Segment}
 use Rattle.connection.specs.Ranges.{ackRange}
-use Rattle.connection.specs.Stages.{lifeOf, stageAfter, openStage}
+use Rattle.connection.specs.Stages.{lifeOf, finsAfter}
 use Rattle.connection.specs.Decision.{verdictOn, passed, opened, carried, repeated, answered, free}
 use Rattle.connection.specs.declared.Connection.{Connection}
 use Rattle.connection.specs.declared.Verdict.the-variants.{Pass}
+use Rattle.connection.proofs.Stages.{1≤lifeOf, stageAfter≥2, stageAfter≤5}
 use Rattle.history.specs.Numbers.{Numbers}
 use Rattle.history.specs.History.{LineSegment, numbersOf, onWire, judge, Holds}
 use Rattle.history.proofs.Step.{Near, start-near, ack-near, ackRange-small}
@@ -33,38 +33,23 @@ pub record Renewed (c : Connection) (now : ℕ) (c' : Connection) : Type 0 where
   pub deadline : c' .deadline ≡ now + lifeOf (c' .stage)
   pub life : 1 ≤ lifeOf (c' .stage)
 
-life-1 : 1 ≤ lifeOf 1
-unfolding lifeOf if_then_else_
-life-1 = omega arith
-
-life-2 : 1 ≤ lifeOf 2
-unfolding lifeOf if_then_else_
-life-2 = omega arith
-
-life-3 : 1 ≤ lifeOf 3
-unfolding lifeOf if_then_else_
-life-3 = omega arith
-
-life-4 : 1 ≤ lifeOf 4
-unfolding lifeOf if_then_else_
-life-4 = omega arith
-
-life-5 : 1 ≤ lifeOf 5
-unfolding lifeOf if_then_else_
-life-5 = omega arith
-
-pub opened-renewed : (side : ℕ) (g : Segment) (now : ℕ) → (opened side g now .deadline ≡ now + lifeOf (opened side g now .stage)) × (1 ≤ lifeOf (opened side g now .stage))
+pub opened-renewed :
+    (side : ℕ) (g : Segment) (now : ℕ) →
+    (opened side g now .deadline ≡ now + lifeOf (opened side g now .stage)) × (1 ≤ lifeOf (opened side g now .stage))
 unfolding opened
-opened-renewed side g now = (refl, life-1)
+opened-renewed side g now = (refl, 1≤lifeOf 1 (omega arith) (omega arith))
 
 pub passed-renewed : (c : Connection) (i : ℕ) (g : Segment) (now : ℕ) → (rst (g .flags) ≡ 1 → ⊥) → Renewed c now (passed c i g now)
-unfolding passed carried repeated answered stageAfter openStage
+unfolding passed carried repeated answered
 passed-renewed c i g now no-reset =
-    let life : ℕ → Type 0 = λ s. 1 ≤ lifeOf s in
+    let fins = finsAfter (c .fins) i (g .flags) in
+    let known = stageAfter≥2 (c .stage) fins i (g .flags) in
     rw (if-=-not {a = rst (g .flags)} {b = 1} free _ no-reset)
     (if-either (Renewed c now) _ _ _
-    record { side = refl; deadline = refl; life = if-either life _ _ _ life-5 (if-either life _ _ _ life-4 (if-either life _ _ _ life-3 (if-either life _ _ _ life-3 life-2))) }
-    (if-either (Renewed c now) _ _ _ record { side = refl; deadline = refl; life = life-1 } record { side = refl; deadline = refl; life = life-2 }))
+    record { side = refl; deadline = refl; life = 1≤lifeOf _ (omega (arith, known)) (stageAfter≤5 (c .stage) fins i (g .flags)) }
+    (if-either (Renewed c now) _ _ _
+    record { side = refl; deadline = refl; life = 1≤lifeOf 1 (omega arith) (omega arith) }
+    record { side = refl; deadline = refl; life = 1≤lifeOf 2 (omega arith) (omega arith) }))
 
 -- Where the connection stands: only the opener's SYN has passed, or both ends' have
 

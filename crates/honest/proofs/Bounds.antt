@@ -12,8 +12,9 @@ use Rattle.choice.proofs.Choice.{if-true, if-false, if-=, if-=-not}
 use Rattle.segment.specs.Flags.{ack, SYN, SYN+ACK}
 use Rattle.connection.specs.Ranges.{ackRange, widest}
 use Rattle.connection.specs.declared.Verdict.the-variants.{Pass, AckMissed}
-use Rattle.history.specs.Numbers.{Numbers, boundsI-II, boundsIII-IV, Spans}
+use Rattle.history.specs.Numbers.{Numbers, boundsI-II, boundsIII-IV}
 use Rattle.history.specs.History.{LineSegment, numbersOf, stageOf, judge, sameSynOnLine, replyOnLine, judgeUnanswered, Formed}
+use Rattle.history.proofs.Step.{Spans}
 use Rattle.history.proofs.Verdict.{Unanswered, Answered, spans}
 use Rattle.honest.specs.Keys.{Keys}
 use Rattle.honest.specs.Rules.{Event, Pair, InOrder, highest, ackOf, endOf, answered}
@@ -26,7 +27,9 @@ module _ {K : Keys} {Call : Type 0} (P : Pair K) (h : List LineSegment) (Arrived
     fact = inv .facts k p s sent
 
     -- The order of arrivals enters here alone: what has passed of the same end was sent no later
-    pub admitted : (g : LineSegment) → In g h → g .from ≡ p .from → (r : ℕ) × Fact P h g r L × (r ≤ p .start) × (ack (g .flags) ≡ 1 → ack (p .flags) ≡ 1 → g .acked ≤ p .acked)
+    pub admitted :
+        (g : LineSegment) → In g h → g .from ≡ p .from →
+        (r : ℕ) × Fact P h g r L × (r ≤ p .start) × (ack (g .flags) ≡ 1 → ack (p .flags) ≡ 1 → g .acked ≤ p .acked)
     admitted g there same =
         let a = passed-sent P h Arrived L inv g there in
         let o = inv .order (a .0) g (a .1) k p s (a .3) sent same (in-order (a .0) g (a .2) same) in
@@ -103,7 +106,9 @@ module _ {K : Keys} {Call : Type 0} (P : Pair K) (h : List LineSegment) (Arrived
           let in-range : boundsI-II (numbersOf (p .from) h) (numbersOf (1 - p .from) h) (p .start) (p .length) ≡ true = rw (le-leb _ _ bound-I, le-leb _ _ bound-II) in
           if-=-not _ _ later ∙ if-false _ _ _ (rw in-range) ∙ by-ack (eqb (ack (p .flags)) 1) refl
         where
-          by-ack : (t : Bool) → eqb (ack (p .flags)) 1 ≡ t → (if (ack (p .flags) =ᵇ 1) && not (boundsIII-IV ackRange (numbersOf (1 - p .from) h) (p .acked)) then AckMissed else Pass) ≡ Pass
+          by-ack :
+              (t : Bool) → eqb (ack (p .flags)) 1 ≡ t →
+              (if (ack (p .flags) =ᵇ 1) && not (boundsIII-IV ackRange (numbersOf (1 - p .from) h) (p .acked)) then AckMissed else Pass) ≡ Pass
           by-ack true e =
               let acks = eqb-true (ack (p .flags)) 1 e in
               let in-range : boundsIII-IV ackRange (numbersOf (1 - p .from) h) (p .acked) ≡ true = rw (le-leb _ _ (bound-III acks), le-leb _ _ (bound-IV acks)) in

@@ -129,7 +129,9 @@ module _ {K : Keys} (t₀ : Table K connections) (P : Pair K) where
       (both (wasSent k p L)
       (both (equal (q .0 .side) (sideOf P (p .from))) (both (so (K .same-true (q .0 .key) (keyOf P (p .from))) (isTrue (K .same (q .0 .key) (keyOf P (p .from))))) (sameSegment (q .0 .segment) (onWire p)))))
 
-  pub finds-none : (b : Ask K) (t : Table K connections) → search K connections t b ≡ length (t .entries) → (a : Ask K) → asks b ≡ asks a → search K connections t a ≡ length (t .entries)
+  pub finds-none :
+      (b : Ask K) (t : Table K connections) → search K connections t b ≡ length (t .entries) → (a : Ask K) → asks b ≡ asks a →
+      search K connections t a ≡ length (t .entries)
   finds-none b t unfound a is = let same : b ≡ a = cc in rw same at unfound
 
   abbrev opens : (k : ℕ) (p : LineSegment) (q : ListCall K) (L : Seen) → Test (Opening M t₀ P k p q L)

@@ -35,7 +35,9 @@ module _ {K : Keys} where
   StandsReached e f = Stands e f × (0 < f .connection .deadline → Reached (f .connection .segments))
 
   -- an opening
-  made-stands : (a : Ask K) (now : ℕ) → Placeable (a .segment) → opens K a ≡ true → StandsReached (record { key = a .key; connection = opened (a .side) (a .segment) now }) (record { key = a .key; connection = grown (a .side) (placed [] 0 (a .segment) ∷ []) now })
+  made-stands :
+      (a : Ask K) (now : ℕ) → Placeable (a .segment) → opens K a ≡ true →
+      StandsReached (record { key = a .key; connection = opened (a .side) (a .segment) now }) (record { key = a .key; connection = grown (a .side) (placed [] 0 (a .segment) ∷ []) now })
   unfolding opened
   made-stands a now placeable opening =
       let a-syn : a .segment .flags ≡ SYN = eqb-true _ _ (&&-true (a .side =ᵇ 0) (a .segment .flags =ᵇ SYN) opening .1) in
@@ -55,7 +57,9 @@ module _ {K : Keys} where
     verdict-same : verdictOn (e .connection) i g ≡ judge (f .connection .segments) (placed (f .connection .segments) i g)
     verdict-same = judged (e .connection) (f .connection .segments) holds reached (record { sender = i; segment = g; now = 0 }) record { sender-known = known; placeable = placeable }
 
-    passed-stands : (now : ℕ) → verdictOn (e .connection) i g ≡ Pass → (rst (g .flags) ≡ 1 → ⊥) → StandsReached (record { key = e .key; connection = passed (e .connection) i g now }) (record { key = f .key; connection = grown (f .connection .side) (placed (f .connection .segments) i g ∷ f .connection .segments) now })
+    passed-stands :
+        (now : ℕ) → verdictOn (e .connection) i g ≡ Pass → (rst (g .flags) ≡ 1 → ⊥) →
+        StandsReached (record { key = e .key; connection = passed (e .connection) i g now }) (record { key = f .key; connection = grown (f .connection .side) (placed (f .connection .segments) i g ∷ f .connection .segments) now })
     passed-stands now passes no-reset =
         let after = pass-holds (e .connection) (f .connection .segments) holds reached (record { sender = i; segment = g; now = now }) record { sender-known = known; placeable = placeable } no-reset (sym verdict-same ∙ passes) in
         let renewed = passed-renewed (e .connection) i g now no-reset in (
@@ -83,10 +87,14 @@ module _ {K : Keys} where
     entries = λ p inside. rw (getD-replicate n p (freeEntry K connections) (freeEntry K connections) (rw length-replicate at inside), getD-replicate n p (freeEntry K histories) (freeEntry K histories) (rw length-replicate at inside)) (entries-agree .free);
   }
 
-  call-same : (t : Table K connections) (u : Table K histories) → Related StandsReached t u → (a : Ask K) → Placeable (a .segment) → SameReply StandsReached (filter K connections t a) (filter K histories u a)
+  call-same :
+      (t : Table K connections) (u : Table K histories) → Related StandsReached t u → (a : Ask K) → Placeable (a .segment) →
+      SameReply StandsReached (filter K connections t a) (filter K histories u a)
   call-same = filter-same StandsReached Placeable entries-agree
 
-  tables-related : (n : ℕ) (l : List (Ask K)) → AllPlaceable l → Related StandsReached (tableAfter K connections n l) (tableAfter K histories n l)
+  tables-related :
+      (n : ℕ) (l : List (Ask K)) → AllPlaceable l →
+      Related StandsReached (tableAfter K connections n l) (tableAfter K histories n l)
   unfolding tableAfter AllPlaceable
   tables-related n [] placeable = fresh-related n
   tables-related n (a ∷ l) placeable = call-same _ _ (tables-related n l (placeable .1)) a (placeable .0) .table

@@ -27,7 +27,10 @@ module _ {K : Keys} (M : Machine K) (Sound : M .State → Type 0) (keeps : Keeps
   all-placeable (q ∷ l) = with-ask q (M .reads q) (asked M l) refl (all-placeable l)
 
   -- one call more
-  view-next : (s : M .State) (q : M .Call) (r : Reading (Ask K)) (l : List (Ask K)) → Sound s → M .reads q ≡ r → M .view s ≡ tableAfter K connections n l → M .view (M .run s q .next) ≡ tableAfter K connections n (withAsk r l)
+  view-next :
+      (s : M .State) (q : M .Call) (r : Reading (Ask K)) (l : List (Ask K)) → Sound s → M .reads q ≡ r →
+      M .view s ≡ tableAfter K connections n l →
+      M .view (M .run s q .next) ≡ tableAfter K connections n (withAsk r l)
   unfolding tableAfter
   view-next s q (refused m p) l sound-s e before =
       keeps .blocked-keeps s q (λ zero-answer. keeps .refusal-blocks q m p e (sym (keeps .refusal-answered s q m p sound-s e) ∙ zero-answer)) ∙ before

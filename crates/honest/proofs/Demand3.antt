@@ -205,7 +205,9 @@ module _ {K : Keys} (M : Machine K) (Sound : M .State → Type 0) (keeps : Keeps
           let life = ap lifeOf stage in
           omega (arith, given, next, told-then, life, deadline, kept .clock)
 
-      first-before : (c : Connection) → c .deadline ≡ clockUsed K connections (M .view (t .state)) a + lifeOf (c .stage) → 1 ≤ lifeOf (c .stage) → M .view s₀ .clock < c .deadline
+      first-before :
+          (c : Connection) → c .deadline ≡ clockUsed K connections (M .view (t .state)) a + lifeOf (c .stage) → 1 ≤ lifeOf (c .stage) →
+          M .view s₀ .clock < c .deadline
       first-before c deadline life = omega (arith, kept .clock)
 
       -- the entry that it leaves, of a connection that holds the history with it on top
@@ -350,7 +352,9 @@ module _ {K : Keys} (M : Machine K) (Sound : M .State → Type 0) (keeps : Keeps
       rw (if-true (passes M (told M s₀ L) q) (p ∷ told M s₀ L .passed) (told M s₀ L .passed) e)
       (protocol-passed P (told M s₀ L .passed) (λ j g. Arrived j g L) L (inv .protocol) q l k p (with-s .0) (with-s .1))
 
-  after-opening : (q : M .Call) (k : ℕ) (p : LineSegment) (L : List (Event (M .Call))) → Inv L → Opening M s₀ P k p q L → Inv (call q (opening k p) ∷ L)
+  after-opening :
+      (q : M .Call) (k : ℕ) (p : LineSegment) (L : List (Event (M .Call))) → Inv L → Opening M s₀ P k p q L →
+      Inv (call q (opening k p) ∷ L)
   unfolding told afterCall
   after-opening q k p L inv o = record {
     table = by-phase (inv .table .phase);

@@ -45,7 +45,9 @@ module _ (K : Keys) where
   pub fresh-sound : (n : ℕ) → SoundTypedTable K (fresh K connections n)
   fresh-sound n = ((λ p inside. inl (all-free p inside)), (λ p inside. rw (all-free p inside) free-typed))
     where
-      all-free : (p : ℕ) → p < length (replicate n (freeEntry K connections)) → getD (replicate n (freeEntry K connections)) p (freeEntry K connections) ≡ freeEntry K connections
+      all-free :
+          (p : ℕ) → p < length (replicate n (freeEntry K connections)) →
+          getD (replicate n (freeEntry K connections)) p (freeEntry K connections) ≡ freeEntry K connections
       all-free p inside = getD-replicate n p _ _ (rw length-replicate at inside)
 
   -- from the fresh table of any number of places

@@ -64,7 +64,9 @@ pub endBy-theirs : (i : ℕ) (p : LineSegment) → (p .from ≡ i → ⊥) → e
 endBy-theirs i p theirs = if-false _ _ _ (rw (ne-eqb (p .from) i theirs))
 
 module _ (i : ℕ) (p : LineSegment) where
-  pub numbers-up : (h : List LineSegment) → In p h → (endBy i p ≤ numbersOf i h .end) × (edgeBy i p ≤ numbersOf i h .edge) × (windowBy i p ≤ numbersOf i h .win)
+  pub numbers-up :
+      (h : List LineSegment) → In p h →
+      (endBy i p ≤ numbersOf i h .end) × (edgeBy i p ≤ numbersOf i h .edge) × (windowBy i p ≤ numbersOf i h .win)
   unfolding numbersOf
   numbers-up [] here = absurd here
   numbers-up (g ∷ h) here =

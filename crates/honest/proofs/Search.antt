@@ -31,7 +31,9 @@ module _ (K : Keys) (B : Bodies) where
     firstFrom-next i [] = add-one i
     firstFrom-next i (e ∷ l) = go (true-or-false (test e)) (firstFrom-next (i + 1) l)
       where
-        go : (test e ≡ true) ⊎ (test e ≡ false) → firstFrom K B test (i + 1 + 1) l ≡ suc (firstFrom K B test (i + 1) l) → (if test e then i + 1 else firstFrom K B test (i + 1 + 1) l) ≡ suc (if test e then i else firstFrom K B test (i + 1) l)
+        go :
+            (test e ≡ true) ⊎ (test e ≡ false) → firstFrom K B test (i + 1 + 1) l ≡ suc (firstFrom K B test (i + 1) l) →
+            (if test e then i + 1 else firstFrom K B test (i + 1 + 1) l) ≡ suc (if test e then i else firstFrom K B test (i + 1) l)
         go (inl t) later = if-true _ _ _ t ∙ add-one i ∙ ap suc (sym (if-true _ _ _ t))
         go (inr f) later = if-false _ _ _ f ∙ later ∙ ap suc (sym (if-false _ _ _ f))
 
@@ -56,12 +58,17 @@ module _ (K : Keys) (B : Bodies) where
     firstFrom-first [] = record { within = omega arith; meets = λ h. absurd (omega arith); none-before = λ k h. absurd (omega arith) }
     firstFrom-first (e ∷ l) = go (true-or-false (test e)) (firstFrom-first l)
       where
-        go : (test e ≡ true) ⊎ (test e ≡ false) → First l (firstFrom K B test 0 l) → First (e ∷ l) (if test e then 0 else firstFrom K B test 1 l)
+        go :
+            (test e ≡ true) ⊎ (test e ≡ false) → First l (firstFrom K B test 0 l) →
+            First (e ∷ l) (if test e then 0 else firstFrom K B test 1 l)
         go (inl t) later = rw (if-true _ 0 (firstFrom K B test 1 l) t) (first-here e l t)
         go (inr f) later = rw (if-false _ 0 (firstFrom K B test 1 l) f, firstFrom-next 0 l) (first-later e l _ f later)
 
     -- where one place alone meets the test, it is the first
-    pub first-only : (l : List (Entry K B)) (n p : ℕ) → First l n → p < length l → test (getD l p (freeEntry K B)) ≡ true → ((r : ℕ) → r < length l → (r ≡ p → ⊥) → test (getD l r (freeEntry K B)) ≡ false) → n ≡ p
+    pub first-only :
+        (l : List (Entry K B)) (n p : ℕ) → First l n → p < length l → test (getD l p (freeEntry K B)) ≡ true →
+        ((r : ℕ) → r < length l → (r ≡ p → ⊥) → test (getD l r (freeEntry K B)) ≡ false) →
+        n ≡ p
     first-only l n p first inside t others = go (lt-or-ge p n) (lt-or-ge n p)
       where
         go : (p < n) ⊎ (n ≤ p) → (n < p) ⊎ (p ≤ n) → n ≡ p
@@ -75,7 +82,9 @@ module _ (K : Keys) (B : Bodies) where
     pub search-first : First (liveMatch K B (clockUsed K B t a) a) (t .entries) (search K B t a)
     search-first = firstFrom-first _ (t .entries)
 
-    pub found-live : search K B t a < length (t .entries) → clockUsed K B t a < B .deadline (getD (t .entries) (search K B t a) (freeEntry K B) .connection)
+    pub found-live :
+        search K B t a < length (t .entries) →
+        clockUsed K B t a < B .deadline (getD (t .entries) (search K B t a) (freeEntry K B) .connection)
     found-live found = ltb-true _ _ (&&-true (clockUsed K B t a <ᵇ B .deadline (getD (t .entries) (search K B t a) (freeEntry K B) .connection)) _ (search-first .meets found) .0)
 
 module _ (K : Keys) where
@@ -101,7 +110,9 @@ module _ (K : Keys) where
   end-matches e a (inr h) = rw (same-both (a .side) (1 - e .connection .side) (a .key) (K .reverse (e .key)) h, or-true)
 
   -- where the far end is an end of the entry, so is this one
-  pub far-end : (e : Entry K connections) (s : ℕ) (k : K .Key) → s ≤ 1 → e .connection .side ≤ 1 → EndOf e (1 - s) (K .reverse k) → EndOf e s k
+  pub far-end :
+      (e : Entry K connections) (s : ℕ) (k : K .Key) → s ≤ 1 → e .connection .side ≤ 1 → EndOf e (1 - s) (K .reverse k) →
+      EndOf e s k
   far-end e s k h h' (inl (p, q)) = inr (omega arith, sym (K .reverse-reverse k) ∙ ap (K .reverse) q)
   far-end e s k h h' (inr (p, q)) = inl (omega arith, sym (K .reverse-reverse k) ∙ ap (K .reverse) q ∙ K .reverse-reverse (e .key))
 
@@ -110,18 +121,26 @@ module _ (K : Keys) where
   same-end e p q (inr (h, h')) = inr (sym p ∙ h, sym q ∙ h')
 
   -- an entry whose opener is an end of another has that one's opener for an end
-  pub mutual-end : (e f : Entry K connections) → e .connection .side ≤ 1 → EndOf e (f .connection .side) (f .key) → EndOf f (e .connection .side) (e .key)
+  pub mutual-end :
+      (e f : Entry K connections) → e .connection .side ≤ 1 → EndOf e (f .connection .side) (f .key) →
+      EndOf f (e .connection .side) (e .key)
   mutual-end e f known (inl (p, q)) = inl (sym p, sym q)
   mutual-end e f known (inr (p, q)) = inr (omega arith, sym (K .reverse-reverse (e .key)) ∙ ap (K .reverse) (sym q))
 
   -- a live entry that matches is a live match, and an expired one is not
-  pub live-match : (now : ℕ) (a : Ask K) (e : Entry K connections) → now < e .connection .deadline → matches K connections e a ≡ true → liveMatch K connections now a e ≡ true
+  pub live-match :
+      (now : ℕ) (a : Ask K) (e : Entry K connections) → now < e .connection .deadline → matches K connections e a ≡ true →
+      liveMatch K connections now a e ≡ true
   live-match now a e h m = rw (lt-ltb now (e .connection .deadline) h, m)
 
-  pub unfound-expired : (now : ℕ) (a : Ask K) (e : Entry K connections) → liveMatch K connections now a e ≡ false → matches K connections e a ≡ true → e .connection .deadline ≤ now
+  pub unfound-expired :
+      (now : ℕ) (a : Ask K) (e : Entry K connections) → liveMatch K connections now a e ≡ false → matches K connections e a ≡ true →
+      e .connection .deadline ≤ now
   unfound-expired now a e none m = ⊎-elim (λ h. false-true (sym none ∙ live-match now a e h m)) (λ h. h) (lt-or-ge now (e .connection .deadline))
 
-  pub expired-unfound : (now : ℕ) (a : Ask K) (e : Entry K connections) → (matches K connections e a ≡ true → e .connection .deadline ≤ now) → liveMatch K connections now a e ≡ false
+  pub expired-unfound :
+      (now : ℕ) (a : Ask K) (e : Entry K connections) → (matches K connections e a ≡ true → e .connection .deadline ≤ now) →
+      liveMatch K connections now a e ≡ false
   expired-unfound now a e expired = ⊎-elim (λ m. rw (le-ltb now (e .connection .deadline) (expired m))) (λ n. rw n (and-false (now <ᵇ e .connection .deadline))) (true-or-false (matches K connections e a))
 
   -- A call
@@ -130,13 +149,25 @@ module _ (K : Keys) where
     -- the filter refuses, passes on the live match that it found, or makes an entry where it found none
     pub data Outcome : Type 0 where
       refuses : (filter K connections t a .answer ≡ 0 → ⊥) → filter K connections t a .table ≡ t → Outcome
-      passes : (e : Entry K connections) → getD (t .entries) (search K connections t a) (freeEntry K connections) ≡ e → search K connections t a < length (t .entries) → clockUsed K connections t a < e .connection .deadline → filter K connections t a ≡ pass K connections t a (search K connections t a) (entryAfter K connections e (senderOf K connections e a) (a .segment) (clockUsed K connections t a)) → Outcome
-      makes : ((r : ℕ) → r < length (t .entries) → liveMatch K connections (clockUsed K connections t a) a (getD (t .entries) r (freeEntry K connections)) ≡ false) → lowestVacant K connections t a < length (t .entries) → a .side ≡ 0 → filter K connections t a ≡ pass K connections t a (lowestVacant K connections t a) (record { key = a .key; connection = opened (a .side) (a .segment) (clockUsed K connections t a) }) → Outcome
+      passes :
+          (e : Entry K connections) → getD (t .entries) (search K connections t a) (freeEntry K connections) ≡ e →
+          search K connections t a < length (t .entries) → clockUsed K connections t a < e .connection .deadline →
+          filter K connections t a ≡ pass K connections t a (search K connections t a) (entryAfter K connections e (senderOf K connections e a) (a .segment) (clockUsed K connections t a)) →
+          Outcome
+      makes :
+          ((r : ℕ) → r < length (t .entries) → liveMatch K connections (clockUsed K connections t a) a (getD (t .entries) r (freeEntry K connections)) ≡ false) →
+          lowestVacant K connections t a < length (t .entries) → a .side ≡ 0 →
+          filter K connections t a ≡ pass K connections t a (lowestVacant K connections t a) (record { key = a .key; connection = opened (a .side) (a .segment) (clockUsed K connections t a) }) →
+          Outcome
 
     refusal : (n : ℕ) → 1 ≤ n → filter K connections t a ≡ refuse K connections t n → Outcome
     refusal n blocked is = refuses (λ (passed : filter K connections t a .answer ≡ 0). omega (arith, ap (λ (r : Reply K connections). r .answer) is)) (rw is)
 
-    verdict-outcome : (e : Entry K connections) (v : Verdict) → getD (t .entries) (search K connections t a) (freeEntry K connections) ≡ e → search K connections t a < length (t .entries) → clockUsed K connections t a < e .connection .deadline → filter K connections t a ≡ byVerdict K connections v t a (search K connections t a) (entryAfter K connections e (senderOf K connections e a) (a .segment) (clockUsed K connections t a)) → Outcome
+    verdict-outcome :
+        (e : Entry K connections) (v : Verdict) → getD (t .entries) (search K connections t a) (freeEntry K connections) ≡ e →
+        search K connections t a < length (t .entries) → clockUsed K connections t a < e .connection .deadline →
+        filter K connections t a ≡ byVerdict K connections v t a (search K connections t a) (entryAfter K connections e (senderOf K connections e a) (a .segment) (clockUsed K connections t a)) →
+        Outcome
     verdict-outcome e Pass there found live-now is = passes e there found live-now is
     verdict-outcome e NotAllowed there found live-now is = refusal 13 (omega arith) is
     verdict-outcome e SequenceMissed there found live-now is = refusal 14 (omega arith) is
@@ -152,7 +183,10 @@ module _ (K : Keys) where
     unfolding filter unmatched
     unmatched-outcome none = go (true-or-false (opens K a)) (lt-or-ge (lowestVacant K connections t a) (length (t .entries)))
       where
-        go : (opens K a ≡ true) ⊎ (opens K a ≡ false) → (lowestVacant K connections t a < length (t .entries)) ⊎ (length (t .entries) ≤ lowestVacant K connections t a) → Outcome
+        go :
+            (opens K a ≡ true) ⊎ (opens K a ≡ false) →
+            (lowestVacant K connections t a < length (t .entries)) ⊎ (length (t .entries) ≤ lowestVacant K connections t a) →
+            Outcome
         go (inr f) _ = refusal 11 (omega arith) (if-<-not _ _ none ∙ if-false _ _ _ f)
         go (inl o) (inr full) = refusal 12 (omega arith) (if-<-not _ _ none ∙ if-true _ _ _ o ∙ if-<-not _ _ full)
         go (inl o) (inl room) =

@@ -41,7 +41,9 @@ module _ {Call : Type 0} where
   sent-with k p (delivery j g ∷ L) sent = sent-with k p L sent
 
   -- a sending is among what its end has sent, and its index below their number
-  pub sent-in : (k : ℕ) (p : LineSegment) (s : ℕ) (L : List (Event Call)) → SentWith k p s L → In p (sentBy (p .from) L) × (k < length (sentBy (p .from) L))
+  pub sent-in :
+      (k : ℕ) (p : LineSegment) (s : ℕ) (L : List (Event Call)) → SentWith k p s L →
+      In p (sentBy (p .from) L) × (k < length (sentBy (p .from) L))
   unfolding sentBy
   sent-in k p s [] none = absurd none
   sent-in k p s (send g ∷ L) sent =
@@ -51,7 +53,9 @@ module _ {Call : Type 0} where
       (λ (before : SentWith k p s L). kept (eqb (g .from) (p .from)) (sent-in k p s L before))
       sent
     where
-      kept : (t : Bool) → In p (sentBy (p .from) L) × (k < length (sentBy (p .from) L)) → In p (if t then g ∷ sentBy (p .from) L else sentBy (p .from) L) × (k < length (if t then g ∷ sentBy (p .from) L else sentBy (p .from) L))
+      kept :
+          (t : Bool) → In p (sentBy (p .from) L) × (k < length (sentBy (p .from) L)) →
+          In p (if t then g ∷ sentBy (p .from) L else sentBy (p .from) L) × (k < length (if t then g ∷ sentBy (p .from) L else sentBy (p .from) L))
       kept true r = rw (if-true true (g ∷ sentBy (p .from) L) (sentBy (p .from) L) refl) (inr (r .0), omega (arith, r .1))
       kept false r = rw (if-false false (g ∷ sentBy (p .from) L) (sentBy (p .from) L) refl) r
   sent-in k p s (call q l ∷ L) sent = sent-in k p s L sent
@@ -100,7 +104,9 @@ module _ {Call : Type 0} where
   unfolding receivedBy
   received-more i k p g L there = if-either (In g) (p .from =ᵇ i) (receivedBy i L) (p ∷ receivedBy i L) there (inr there)
 
-  some-more : (test : LineSegment → Bool) (i k : ℕ) (p : LineSegment) (L : List (Event Call)) → some test (receivedBy i L) ≡ true → some test (receivedBy i (delivery k p ∷ L)) ≡ true
+  some-more :
+      (test : LineSegment → Bool) (i k : ℕ) (p : LineSegment) (L : List (Event Call)) → some test (receivedBy i L) ≡ true →
+      some test (receivedBy i (delivery k p ∷ L)) ≡ true
   some-more test i k p L e =
       let r = some-in test (receivedBy i L) e in
       in-some test (receivedBy i (delivery k p ∷ L)) (r .0) (received-more i k p (r .0) L (r .1)) (r .2)
@@ -112,12 +118,17 @@ module _ {Call : Type 0} where
     heard-more = λ i. highest-lub ackOf _ (receivedBy i L) (λ g there. highest-up ackOf g (receivedBy i (delivery k p ∷ L)) (received-more i k p g L there));
   }
     where
-      by : (t : Bool) (i : ℕ) → (if t then some (λ g. g .flags =ᵇ SYN+ACK) (receivedBy 0 L) else some (λ g. ack (g .flags) =ᵇ 1) (receivedBy 1 L)) ≡ true → (if t then some (λ g. g .flags =ᵇ SYN+ACK) (receivedBy 0 (delivery k p ∷ L)) else some (λ g. ack (g .flags) =ᵇ 1) (receivedBy 1 (delivery k p ∷ L))) ≡ true
+      by :
+          (t : Bool) (i : ℕ) →
+          (if t then some (λ g. g .flags =ᵇ SYN+ACK) (receivedBy 0 L) else some (λ g. ack (g .flags) =ᵇ 1) (receivedBy 1 L)) ≡ true →
+          (if t then some (λ g. g .flags =ᵇ SYN+ACK) (receivedBy 0 (delivery k p ∷ L)) else some (λ g. ack (g .flags) =ᵇ 1) (receivedBy 1 (delivery k p ∷ L))) ≡ true
       by true i e = if-true true _ _ refl ∙ some-more (λ g. g .flags =ᵇ SYN+ACK) 0 k p L (sym (if-true true _ _ refl) ∙ e)
       by false i e = if-false false _ _ refl ∙ some-more (λ g. ack (g .flags) =ᵇ 1) 1 k p L (sym (if-false false _ _ refl) ∙ e)
 
 -- an end that is answered has received a segment with ACK; the opener, a SYN+ACK
-pub answered-in : {Call : Type 0} (i : ℕ) (L : List (Event Call)) → i < 2 → answered i L ≡ true → (g : LineSegment) × In g (receivedBy i L) × (ack (g .flags) ≡ 1) × (i ≡ 0 → g .flags ≡ SYN+ACK)
+pub answered-in :
+    {Call : Type 0} (i : ℕ) (L : List (Event Call)) → i < 2 → answered i L ≡ true →
+    (g : LineSegment) × In g (receivedBy i L) × (ack (g .flags) ≡ 1) × (i ≡ 0 → g .flags ≡ SYN+ACK)
 unfolding answered if_then_else_
 answered-in zero L known e =
     let r = some-in (λ g. g .flags =ᵇ SYN+ACK) (receivedBy 0 L) e in
@@ -161,7 +172,9 @@ first-facts P p formed f = by (eqb (p .from) 0) refl
         }
 
 -- and what a SYN+ACK acknowledges
-pub first-acks : {K : Keys} (P : Pair K) (p : LineSegment) → p .from < 2 → FirstSegment P p → FirstFacts P p → ack (p .flags) ≡ 1 → p .acked ≡ P .start (1 - p .from) + 1
+pub first-acks :
+    {K : Keys} (P : Pair K) (p : LineSegment) → p .from < 2 → FirstSegment P p → FirstFacts P p → ack (p .flags) ≡ 1 →
+    p .acked ≡ P .start (1 - p .from) + 1
 first-acks P p known rule f acks = by (eqb (p .from) 0) refl
   where
     by : (t : Bool) → eqb (p .from) 0 ≡ t → p .acked ≡ P .start (1 - p .from) + 1
@@ -190,20 +203,28 @@ module _ {K : Keys} {Call : Type 0} (P : Pair K) where
 
   pub record Protocol (h : List LineSegment) (Arrived : ℕ → LineSegment → Type 0) (L : List (Event Call)) : Type 0 where
     pub facts : (k : ℕ) (p : LineSegment) (s : ℕ) → SentWith k p s L → Fact h p s L
-    pub order : (k : ℕ) (p : LineSegment) (s k' : ℕ) (p' : LineSegment) (s' : ℕ) → SentWith k p s L → SentWith k' p' s' L → p .from ≡ p' .from → k ≤ k' → (s ≤ s') × (ack (p .flags) ≡ 1 → ack (p' .flags) ≡ 1 → p .acked ≤ p' .acked)
+    pub order :
+        (k : ℕ) (p : LineSegment) (s k' : ℕ) (p' : LineSegment) (s' : ℕ) → SentWith k p s L → SentWith k' p' s' L → p .from ≡ p' .from →
+        k ≤ k' →
+        (s ≤ s') × (ack (p .flags) ≡ 1 → ack (p' .flags) ≡ 1 → p .acked ≤ p' .acked)
     pub received : (i : ℕ) (p : LineSegment) → In p (receivedBy i L) → In p h × (p .from ≡ i → ⊥)
     pub arrived : (k : ℕ) (p : LineSegment) → Arrived k p → (s : ℕ) × SentWith k p s L
     pub passed : (p : LineSegment) → In p h → (k : ℕ) × Arrived k p
 
   -- a segment that has passed was sent
-  pub passed-sent : (h : List LineSegment) (Arrived : ℕ → LineSegment → Type 0) (L : List (Event Call)) → Protocol h Arrived L → (p : LineSegment) → In p h → (k : ℕ) × (s : ℕ) × Arrived k p × SentWith k p s L
+  pub passed-sent :
+      (h : List LineSegment) (Arrived : ℕ → LineSegment → Type 0) (L : List (Event Call)) → Protocol h Arrived L → (p : LineSegment) →
+      In p h →
+      (k : ℕ) × (s : ℕ) × Arrived k p × SentWith k p s L
   passed-sent h Arrived L inv p there =
       let a = inv .passed p there in
       let b = inv .arrived (a .0) p (a .1) in
       (a .0, b .0, a .1, b .1)
 
   -- what is kept of a sending goes on being so
-  pub fact-kept : (h h' : List LineSegment) (p : LineSegment) (s : ℕ) (L L' : List (Event Call)) → Rises h h' → Grows L L' → Fact h p s L → Fact h' p s L'
+  pub fact-kept :
+      (h h' : List LineSegment) (p : LineSegment) (s : ℕ) (L L' : List (Event Call)) → Rises h h' → Grows L L' → Fact h p s L →
+      Fact h' p s L'
   fact-kept h h' p s L L' rises grows f = record {
     end-known = f .end-known;
     formed = f .formed;
@@ -317,7 +338,9 @@ module _ {K : Keys} {Call : Type 0} (P : Pair K) where
     fact-sent (later rule answered-now) = fact-later rule answered-now
 
     -- an earlier sending of the same end has no higher snapshot and no higher acknowledgement
-    earlier : Honest P p L → (k : ℕ) (g : LineSegment) (s : ℕ) → SentWith k g s L → g .from ≡ p .from → (s ≤ snapshot p L) × (ack (g .flags) ≡ 1 → ack (p .flags) ≡ 1 → g .acked ≤ p .acked)
+    earlier :
+        Honest P p L → (k : ℕ) (g : LineSegment) (s : ℕ) → SentWith k g s L → g .from ≡ p .from →
+        (s ≤ snapshot p L) × (ack (g .flags) ≡ 1 → ack (p .flags) ≡ 1 → g .acked ≤ p .acked)
     earlier (first rule unanswered heard-syn) k g s sent same =
         let f = first-facts P p formed rule in
         let own : snapshot p L ≡ p .start = if-= _ _ (f .a-syn) in
@@ -346,7 +369,10 @@ module _ {K : Keys} {Call : Type 0} (P : Pair K) where
         (inv .facts k g s sent .kind)
 
     -- the sendings with one more
-    order-sent : Honest P p L → (k : ℕ) (g : LineSegment) (s k' : ℕ) (g' : LineSegment) (s' : ℕ) → SentWith k g s (send p ∷ L) → SentWith k' g' s' (send p ∷ L) → g .from ≡ g' .from → k ≤ k' → (s ≤ s') × (ack (g .flags) ≡ 1 → ack (g' .flags) ≡ 1 → g .acked ≤ g' .acked)
+    order-sent :
+        Honest P p L → (k : ℕ) (g : LineSegment) (s k' : ℕ) (g' : LineSegment) (s' : ℕ) → SentWith k g s (send p ∷ L) →
+        SentWith k' g' s' (send p ∷ L) → g .from ≡ g' .from → k ≤ k' →
+        (s ≤ s') × (ack (g .flags) ≡ 1 → ack (g' .flags) ≡ 1 → g .acked ≤ g' .acked)
     order-sent honest k g s k' g' s' sent sent' same in-order =
         ⊎-elim
         (λ (now : Now k g s). ⊎-elim
@@ -398,7 +424,10 @@ module _ {K : Keys} {Call : Type 0} (P : Pair K) where
 
   -- A delivery of what has passed
 
-  pub protocol-delivered : (h : List LineSegment) (Arrived : ℕ → LineSegment → Type 0) (L : List (Event Call)) (k : ℕ) (p : LineSegment) → Protocol h Arrived L → In p h → Protocol h Arrived (delivery k p ∷ L)
+  pub protocol-delivered :
+      (h : List LineSegment) (Arrived : ℕ → LineSegment → Type 0) (L : List (Event Call)) (k : ℕ) (p : LineSegment) →
+      Protocol h Arrived L → In p h →
+      Protocol h Arrived (delivery k p ∷ L)
   unfolding receivedBy
   protocol-delivered h Arrived L k p inv there = record {
     facts = λ j g s sent. fact-kept h h g s L (delivery k p ∷ L) (rises-same h) (grows-delivery k p L) (inv .facts j g s sent);
@@ -408,7 +437,9 @@ module _ {K : Keys} {Call : Type 0} (P : Pair K) where
     passed = inv .passed;
   }
     where
-      delivered : (i : ℕ) (g : LineSegment) (t : Bool) → eqb (p .from) i ≡ t → In g (receivedBy i (delivery k p ∷ L)) → In g h × (g .from ≡ i → ⊥)
+      delivered :
+          (i : ℕ) (g : LineSegment) (t : Bool) → eqb (p .from) i ≡ t → In g (receivedBy i (delivery k p ∷ L)) →
+          In g h × (g .from ≡ i → ⊥)
       delivered i g true e got = inv .received i g (rw (if-true (p .from =ᵇ i) (receivedBy i L) (p ∷ receivedBy i L) e) at got)
       delivered i g false e got =
           ⊎-elim
@@ -433,7 +464,9 @@ module _ {K : Keys} {Call : Type 0} (P : Pair K) where
       passed = inv .passed;
     }
 
-    pub protocol-passed : (k : ℕ) (p : LineSegment) (s : ℕ) → SentWith k p s L → Protocol (p ∷ h) (λ j g. ((j ≡ k) × (g ≡ p)) ⊎ Arrived j g) (call q l ∷ L)
+    pub protocol-passed :
+        (k : ℕ) (p : LineSegment) (s : ℕ) → SentWith k p s L →
+        Protocol (p ∷ h) (λ j g. ((j ≡ k) × (g ≡ p)) ⊎ Arrived j g) (call q l ∷ L)
     unfolding receivedBy
     protocol-passed k p s sent = record {
       facts = λ j g r was. fact-kept h (p ∷ h) g r L (call q l ∷ L) (rises-more p h) grows-call (inv .facts j g r was);

@@ -28,8 +28,13 @@ module _ {K : Keys} {B C : Bodies} where
     pub free : R (freeEntry K B) (freeEntry K C)
     pub made : (a : Ask K) (now : ℕ) → Legal (a .segment) → opens K a ≡ true → R (entryMade K B a now) (entryMade K C a now)
     -- of live entries
-    pub verdict : {e : Entry K B} {f : Entry K C} (i : ℕ) (g : Segment) → R e f → 0 < B .deadline (e .connection) → i < 2 → Legal g → B .verdict (e .connection) i g ≡ C .verdict (f .connection) i g
-    pub passed : {e : Entry K B} {f : Entry K C} (i : ℕ) (g : Segment) (now : ℕ) → R e f → 0 < B .deadline (e .connection) → i < 2 → Legal g → B .verdict (e .connection) i g ≡ Pass → (rst (g .flags) ≡ 1 → ⊥) → R (record { key = e .key; connection = B .passed (e .connection) i g now }) (record { key = f .key; connection = C .passed (f .connection) i g now })
+    pub verdict :
+        {e : Entry K B} {f : Entry K C} (i : ℕ) (g : Segment) → R e f → 0 < B .deadline (e .connection) → i < 2 → Legal g →
+        B .verdict (e .connection) i g ≡ C .verdict (f .connection) i g
+    pub passed :
+        {e : Entry K B} {f : Entry K C} (i : ℕ) (g : Segment) (now : ℕ) → R e f → 0 < B .deadline (e .connection) → i < 2 → Legal g →
+        B .verdict (e .connection) i g ≡ Pass → (rst (g .flags) ≡ 1 → ⊥) →
+        R (record { key = e .key; connection = B .passed (e .connection) i g now }) (record { key = f .key; connection = C .passed (f .connection) i g now })
 
   pub record Related (R : Entry K B → Entry K C → Type 0) (t : Table K B) (u : Table K C) : Type 0 where
     pub clock : t .clock ≡ u .clock
@@ -52,7 +57,11 @@ module _ {K : Keys} {B C : Bodies} where
     unfolding senderOf
     sender-same a r = rw (agree .key r, agree .side r)
 
-    first-same : (test : Entry K B → Bool) (test' : Entry K C → Bool) → ((e : Entry K B) (f : Entry K C) → R e f → test e ≡ test' f) → (i : ℕ) (l : List (Entry K B)) (m : List (Entry K C)) → length l ≡ length m → ((p : ℕ) → p < length l → R (getD l p (freeEntry K B)) (getD m p (freeEntry K C))) → firstFrom K B test i l ≡ firstFrom K C test' i m
+    first-same :
+        (test : Entry K B → Bool) (test' : Entry K C → Bool) → ((e : Entry K B) (f : Entry K C) → R e f → test e ≡ test' f) →
+        (i : ℕ) (l : List (Entry K B)) (m : List (Entry K C)) → length l ≡ length m →
+        ((p : ℕ) → p < length l → R (getD l p (freeEntry K B)) (getD m p (freeEntry K C))) →
+        firstFrom K B test i l ≡ firstFrom K C test' i m
     unfolding firstFrom
     first-same test test' same i [] [] places entries = refl
     first-same test test' same i [] (f ∷ m) places entries = absurd (omega arith)
@@ -78,24 +87,32 @@ module _ {K : Keys} {B C : Bodies} where
         table = record { clock = clock-same; places = rw (length-set (t .entries) p e, length-set (u .entries) p f) (tables .places); entries = λ q inside. at-place q (rw length-set at inside) (true-or-false (q =ᵇ p)) };
       }
         where
-          at-place : (q : ℕ) → q < length (t .entries) → (q =ᵇ p ≡ true) ⊎ (q =ᵇ p ≡ false) → R (getD (set (t .entries) p e) q (freeEntry K B)) (getD (set (u .entries) p f) q (freeEntry K C))
+          at-place :
+              (q : ℕ) → q < length (t .entries) → (q =ᵇ p ≡ true) ⊎ (q =ᵇ p ≡ false) →
+              R (getD (set (t .entries) p e) q (freeEntry K B)) (getD (set (u .entries) p f) q (freeEntry K C))
           at-place q inside (inl same) =
               let here : q ≡ p = eqb-true q p same in
               rw (here, getD-set-same (t .entries) p e (freeEntry K B) (omega arith), getD-set-same (u .entries) p f (freeEntry K C) (omega (arith, tables .places))) r
           at-place q inside (inr differs) =
               rw (getD-set-other (t .entries) p q e (freeEntry K B) (eqb-false q p differs), getD-set-other (u .entries) p q f (freeEntry K C) (eqb-false q p differs)) (tables .entries q inside)
 
-      by-verdict-same : (p : ℕ) (e : Entry K B) (f : Entry K C) (v : Verdict) → (v ≡ Pass → R e f) → SameReply R (byVerdict K B v t a p e) (byVerdict K C v u a p f)
+      by-verdict-same :
+          (p : ℕ) (e : Entry K B) (f : Entry K C) (v : Verdict) → (v ≡ Pass → R e f) →
+          SameReply R (byVerdict K B v t a p e) (byVerdict K C v u a p f)
       by-verdict-same p e f Pass r = pass-same p e f (r refl)
       by-verdict-same p e f NotAllowed r = record { answer = refl; place = refl; table = tables }
       by-verdict-same p e f SequenceMissed r = record { answer = refl; place = refl; table = tables }
       by-verdict-same p e f AckMissed r = record { answer = refl; place = refl; table = tables }
 
-      matched-same : (p : ℕ) → p < length (t .entries) → 0 < B .deadline (getD (t .entries) p (freeEntry K B) .connection) → SameReply R (matched K B t a p) (matched K C u a p)
+      matched-same :
+          (p : ℕ) → p < length (t .entries) → 0 < B .deadline (getD (t .entries) p (freeEntry K B) .connection) →
+          SameReply R (matched K B t a p) (matched K C u a p)
       unfolding matched
       matched-same p inside live-now = go (getD (t .entries) p (freeEntry K B)) (getD (u .entries) p (freeEntry K C)) (tables .entries p inside) live-now
         where
-          go : (e : Entry K B) (f : Entry K C) → R e f → 0 < B .deadline (e .connection) → SameReply R (byVerdict K B (B .verdict (e .connection) (senderOf K B e a) (a .segment)) t a p (entryAfter K B e (senderOf K B e a) (a .segment) (clockUsed K B t a))) (byVerdict K C (C .verdict (f .connection) (senderOf K C f a) (a .segment)) u a p (entryAfter K C f (senderOf K C f a) (a .segment) (clockUsed K C u a)))
+          go :
+              (e : Entry K B) (f : Entry K C) → R e f → 0 < B .deadline (e .connection) →
+              SameReply R (byVerdict K B (B .verdict (e .connection) (senderOf K B e a) (a .segment)) t a p (entryAfter K B e (senderOf K B e a) (a .segment) (clockUsed K B t a))) (byVerdict K C (C .verdict (f .connection) (senderOf K C f a) (a .segment)) u a p (entryAfter K C f (senderOf K C f a) (a .segment) (clockUsed K C u a)))
           go e f r live-e =
               let i = senderOf K B e a in
               rw (← sender-same a r, ← clock-same, ← agree .verdict i (a .segment) r live-e (sender-known K B e a) legal)

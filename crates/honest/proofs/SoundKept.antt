@@ -24,9 +24,10 @@ use Rattle.connection.specs.declared.Connection.{Connection}
 use Rattle.connection.specs.declared.End.{End}
 use Rattle.connection.specs.declared.Verdict.{Verdict}
 use Rattle.connection.specs.declared.Verdict.the-variants.{Pass, NotAllowed, SequenceMissed, AckMissed}
+use Rattle.connection.proofs.Sound.{later-sound}
 use Rattle.history.specs.History.{Placeable}
 use Rattle.history.specs.Records.{Fits, TwoEnds}
-use Rattle.history.proofs.Sound.{sound-facts, facts-sound, opened-sound, passed-sound}
+use Rattle.history.proofs.Sound.{opened-sound, passed-sound}
 use Rattle.honest.specs.Keys.{Keys}
 use Rattle.honest.specs.Rows.{Entry, Table, Ask, Reply, freeEntry, clockUsed, senderOf, search, entryAfter, byVerdict, filter, matched}
 use Rattle.honest.specs.Connections.{connections, SoundTable}
@@ -114,20 +115,6 @@ module _ (c : Connection) (x : ℕ → End) (ends : TwoEnds c x) (g : Segment) (
 
 -- One entry
 
-pub later-sound : (clock now : ℕ) (c : Connection) → clock ≤ now → soundConnection clock c ≡ true → soundConnection now c ≡ true
-later-sound clock now c later sound =
-    let f = sound-facts clock c sound in
-    facts-sound now c record {
-      stage-some = f .stage-some;
-      stage-most = f .stage-most;
-      side = f .side;
-      fins = f .fins;
-      deadline = omega (arith, f .deadline);
-      opener = f .opener;
-      answerer = f .answerer;
-      unanswered = f .unanswered;
-    }
-
 module _ (K : Keys) where
   -- free or sound by a clock, and typed
   record SoundEntry (clock : ℕ) (e : Entry K connections) : Type 0 where
@@ -143,7 +130,9 @@ module _ (K : Keys) where
   entry-later : (clock now : ℕ) (e : Entry K connections) → clock ≤ now → SoundEntry clock e → SoundEntry now e
   entry-later clock now e later s = record { sound = ⊎-elim (λ free. inl free) (λ sound. inr (later-sound clock now _ later sound)) (s .sound); typed = s .typed }
 
-  written-sound : (now : ℕ) (l : List (Entry K connections)) (p : ℕ) (e : Entry K connections) → SoundEntries now l → SoundEntry now e → SoundEntries now (set l p e)
+  written-sound :
+      (now : ℕ) (l : List (Entry K connections)) (p : ℕ) (e : Entry K connections) → SoundEntries now l → SoundEntry now e →
+      SoundEntries now (set l p e)
   written-sound now l p e all new r inside = go (true-or-false (r =ᵇ p))
     where
       inside-before : r < length l
@@ -157,26 +146,38 @@ module _ (K : Keys) where
 
   module _ (t : Table K connections) (a : Ask K) where
     -- what passed on a match has verdict Pass
-    pass-verdict : (e : Entry K connections) → getD (t .entries) (search K connections t a) (freeEntry K connections) ≡ e → search K connections t a < length (t .entries) → filter K connections t a .answer ≡ 0 → verdictOn (e .connection) (senderOf K connections e a) (a .segment) ≡ Pass
+    pass-verdict :
+        (e : Entry K connections) → getD (t .entries) (search K connections t a) (freeEntry K connections) ≡ e →
+        search K connections t a < length (t .entries) → filter K connections t a .answer ≡ 0 →
+        verdictOn (e .connection) (senderOf K connections e a) (a .segment) ≡ Pass
     unfolding filter matched
     pass-verdict e there found passed-0 =
         let is : filter K connections t a ≡ byVerdict K connections (verdictOn (e .connection) (senderOf K connections e a) (a .segment)) t a (search K connections t a) (entryAfter K connections e (senderOf K connections e a) (a .segment) (clockUsed K connections t a)) = if-< _ _ found ∙ rw there in
         go _ refl (sym (ap (λ (r : Reply K connections). r .answer) is) ∙ passed-0)
       where
-        go : (v : Verdict) → verdictOn (e .connection) (senderOf K connections e a) (a .segment) ≡ v → byVerdict K connections v t a (search K connections t a) (entryAfter K connections e (senderOf K connections e a) (a .segment) (clockUsed K connections t a)) .answer ≡ 0 → verdictOn (e .connection) (senderOf K connections e a) (a .segment) ≡ Pass
+        go :
+            (v : Verdict) → verdictOn (e .connection) (senderOf K connections e a) (a .segment) ≡ v →
+            byVerdict K connections v t a (search K connections t a) (entryAfter K connections e (senderOf K connections e a) (a .segment) (clockUsed K connections t a)) .answer ≡ 0 →
+            verdictOn (e .connection) (senderOf K connections e a) (a .segment) ≡ Pass
         go Pass is answer = is
         go NotAllowed is answer = absurd (omega arith)
         go SequenceMissed is answer = absurd (omega arith)
         go AckMissed is answer = absurd (omega arith)
 
     -- what it leaves of the entry is free or sound
-    passed-entry : (e : Entry K connections) → SoundEntry (t .clock) e → Placeable (a .segment) → clockUsed K connections t a < e .connection .deadline → verdictOn (e .connection) (senderOf K connections e a) (a .segment) ≡ Pass → SoundEntry (clockUsed K connections t a) (entryAfter K connections e (senderOf K connections e a) (a .segment) (clockUsed K connections t a))
+    passed-entry :
+        (e : Entry K connections) → SoundEntry (t .clock) e → Placeable (a .segment) →
+        clockUsed K connections t a < e .connection .deadline →
+        verdictOn (e .connection) (senderOf K connections e a) (a .segment) ≡ Pass →
+        SoundEntry (clockUsed K connections t a) (entryAfter K connections e (senderOf K connections e a) (a .segment) (clockUsed K connections t a))
     passed-entry e s placeable live verdict = go (true-or-false (rst (a .segment .flags) =ᵇ 1))
       where
         not-free : soundConnection (t .clock) (e .connection) ≡ true
         not-free = ⊎-elim (λ free. absurd (omega (arith, ap (λ (f : Entry K connections). f .connection .deadline) free))) (λ sound. sound) (s .sound)
 
-        go : (rst (a .segment .flags) =ᵇ 1 ≡ true) ⊎ (rst (a .segment .flags) =ᵇ 1 ≡ false) → SoundEntry (clockUsed K connections t a) (entryAfter K connections e (senderOf K connections e a) (a .segment) (clockUsed K connections t a))
+        go :
+            (rst (a .segment .flags) =ᵇ 1 ≡ true) ⊎ (rst (a .segment .flags) =ᵇ 1 ≡ false) →
+            SoundEntry (clockUsed K connections t a) (entryAfter K connections e (senderOf K connections e a) (a .segment) (clockUsed K connections t a))
         go (inl reset) = rw if-true (free-sound _)
         go (inr none) =
             rw if-false record {
@@ -184,7 +185,9 @@ module _ (K : Keys) where
               typed = passed-typed (e .connection) (s .typed .0) (s .typed .1) (a .segment) (clockUsed K connections t a) (senderOf K connections e a) (sender-known K connections e a);
             }
 
-    pub filter-sound : SoundTable K t → TypedTable K t → a .side ≤ 1 → Placeable (a .segment) → SoundTable K (filter K connections t a .table) × TypedTable K (filter K connections t a .table)
+    pub filter-sound :
+        SoundTable K t → TypedTable K t → a .side ≤ 1 → Placeable (a .segment) →
+        SoundTable K (filter K connections t a .table) × TypedTable K (filter K connections t a .table)
     filter-sound sound typed known placeable = ((λ p inside. all p inside .sound), (λ p inside. all p inside .typed))
       where
         before : SoundEntries (t .clock) (t .entries)

@@ -14,7 +14,7 @@ use Rattle.choice.proofs.Tests.{true-or-false, false-true}
 use Rattle.segment.specs.declared.Segment.{Segment}
 use Rattle.connection.specs.Decision.{opened, passed, carried, repeated, answered}
 use Rattle.connection.specs.declared.Connection.{Connection}
-use Rattle.history.proofs.Sound.{sound-facts}
+use Rattle.connection.proofs.Sound.{sound-facts}
 use Rattle.honest.specs.Keys.{Keys}
 use Rattle.honest.specs.Rows.{Entry, Table, Ask, freeEntry, clockUsed, matches, liveMatch, senderOf, search, filter, matched, entryAfter}
 use Rattle.honest.specs.Connections.{connections, SoundTable}
@@ -58,11 +58,17 @@ module _ {K : Keys} (P : Pair K) where
   asks-as (suc (suc i)) a asked = absurd (omega arith)
 
   -- where the opener found no live match, every entry of the pair has expired
-  opener-unfound : (now : ℕ) (a b : Ask K) (e : Entry K connections) → a .side ≡ P .side → a .key ≡ P .key → liveMatch K connections now a e ≡ false → pairs e b ≡ true → e .connection .deadline ≤ now
+  opener-unfound :
+      (now : ℕ) (a b : Ask K) (e : Entry K connections) → a .side ≡ P .side → a .key ≡ P .key →
+      liveMatch K connections now a e ≡ false → pairs e b ≡ true →
+      e .connection .deadline ≤ now
   opener-unfound now a b e s k unfound m = unfound-expired K now a e unfound (end-matches K e a (same-end K e (sym s) (sym k) (matches-end K e (openerAsk b) m)))
 
   -- a call that makes an entry of the pair matches ours
-  made-matched : (c : Connection) (a b : Ask K) (now : ℕ) → c .side ≡ P .side → a .side ≡ 0 → pairs (record { key = a .key; connection = opened (a .side) (a .segment) now }) b ≡ true → matches K connections (record { key = P .key; connection = c }) a ≡ true
+  made-matched :
+      (c : Connection) (a b : Ask K) (now : ℕ) → c .side ≡ P .side → a .side ≡ 0 →
+      pairs (record { key = a .key; connection = opened (a .side) (a .segment) now }) b ≡ true →
+      matches K connections (record { key = P .key; connection = c }) a ≡ true
   unfolding opened
   made-matched c a b now our-side from-0 m =
       let made : Entry K connections = record { key = a .key; connection = opened (a .side) (a .segment) now } in
@@ -72,17 +78,25 @@ module _ {K : Keys} (P : Pair K) where
   -- What a written entry leaves
 
   module _ (l : List (Entry K connections)) (now : ℕ) where
-    written-here : (p : ℕ) (e : Entry K connections) (c : Connection) → p < length l → e ≡ record { key = P .key; connection = c } → c .side ≡ P .side → OurEntry (record { clock = now; entries = set l p e }) p c
+    written-here :
+        (p : ℕ) (e : Entry K connections) (c : Connection) → p < length l → e ≡ record { key = P .key; connection = c } →
+        c .side ≡ P .side →
+        OurEntry (record { clock = now; entries = set l p e }) p c
     written-here p e c inside is same-side = record { inside = rw length-set inside; there = getD-set-same l p e _ inside ∙ is; our-side = same-side }
 
     -- a written entry that is ours, not of the pair or expired makes no other of the pair live
-    others-stay : (p q : ℕ) (e : Entry K connections) → OthersExpired (record { clock = now; entries = l }) p → ((b : Ask K) → (q ≡ p → ⊥) → pairs e b ≡ true → e .connection .deadline ≤ now) → OthersExpired (record { clock = now; entries = set l q e }) p
+    others-stay :
+        (p q : ℕ) (e : Entry K connections) → OthersExpired (record { clock = now; entries = l }) p →
+        ((b : Ask K) → (q ≡ p → ⊥) → pairs e b ≡ true → e .connection .deadline ≤ now) →
+        OthersExpired (record { clock = now; entries = set l q e }) p
     others-stay p q e others new r b inside r≠p = go (true-or-false (r =ᵇ q))
       where
         inside-before : r < length l
         inside-before = rw length-set at inside
 
-        go : (r =ᵇ q ≡ true) ⊎ (r =ᵇ q ≡ false) → pairs (getD (set l q e) r (freeEntry K connections)) b ≡ true → getD (set l q e) r (freeEntry K connections) .connection .deadline ≤ now
+        go :
+            (r =ᵇ q ≡ true) ⊎ (r =ᵇ q ≡ false) → pairs (getD (set l q e) r (freeEntry K connections)) b ≡ true →
+            getD (set l q e) r (freeEntry K connections) .connection .deadline ≤ now
         go (inl same) =
             let r≡q : r ≡ q = eqb-true r q same in
             rw (r≡q, getD-set-same l q e (freeEntry K connections) (omega (arith, inside-before))) (new b (λ q≡p. r≠p (r≡q ∙ q≡p)))
@@ -92,7 +106,10 @@ module _ {K : Keys} (P : Pair K) where
     others-later : OthersExpired (record { clock = clockUsed K connections t a; entries = t .entries }) p
     others-later r b inside r≠p m = omega (arith, others r b inside r≠p m)
 
-    written-elsewhere : (c : Connection) → OurEntry t p c → (q : ℕ) (e : Entry K connections) → (q ≡ p → ⊥) → ((b : Ask K) → pairs e b ≡ true → e .connection .deadline ≤ clockUsed K connections t a) → OurEntry (record { clock = clockUsed K connections t a; entries = set (t .entries) q e }) p c × OthersExpired (record { clock = clockUsed K connections t a; entries = set (t .entries) q e }) p
+    written-elsewhere :
+        (c : Connection) → OurEntry t p c → (q : ℕ) (e : Entry K connections) → (q ≡ p → ⊥) →
+        ((b : Ask K) → pairs e b ≡ true → e .connection .deadline ≤ clockUsed K connections t a) →
+        OurEntry (record { clock = clockUsed K connections t a; entries = set (t .entries) q e }) p c × OthersExpired (record { clock = clockUsed K connections t a; entries = set (t .entries) q e }) p
     written-elsewhere c ours q e q≠p new = (
       record { inside = rw length-set (ours .inside); there = getD-set-other (t .entries) q p e _ (λ p≡q. q≠p (sym p≡q)) ∙ ours .there; our-side = ours .our-side },
       others-stay (t .entries) (clockUsed K connections t a) p q e others-later (λ b _. new b),
@@ -106,10 +123,16 @@ module _ {K : Keys} (P : Pair K) where
       if-either kept _ _ _ (inl refl) (if-either kept _ _ _ (inr refl) (if-either kept _ _ _ (inr refl) (inr refl)))
 
   -- so it leaves an entry that is not of the pair not of it, or expired
-  pass-stays-out : (e : Entry K connections) (i : ℕ) (g : Segment) (now : ℕ) (b : Ask K) → (pairs e b ≡ true → ⊥) → pairs (entryAfter K connections e i g now) b ≡ true → entryAfter K connections e i g now .connection .deadline ≤ now
+  pass-stays-out :
+      (e : Entry K connections) (i : ℕ) (g : Segment) (now : ℕ) (b : Ask K) → (pairs e b ≡ true → ⊥) →
+      pairs (entryAfter K connections e i g now) b ≡ true →
+      entryAfter K connections e i g now .connection .deadline ≤ now
   pass-stays-out e i g now b out = if-either (λ x. pairs x b ≡ true → x .connection .deadline ≤ now) _ _ _ (λ m. omega arith) (λ m. go m (passed-side (e .connection) i g now))
     where
-      go : pairs (record { key = e .key; connection = passed (e .connection) i g now }) b ≡ true → (passed (e .connection) i g now .deadline ≡ 0) ⊎ (passed (e .connection) i g now .side ≡ e .connection .side) → passed (e .connection) i g now .deadline ≤ now
+      go :
+          pairs (record { key = e .key; connection = passed (e .connection) i g now }) b ≡ true →
+          (passed (e .connection) i g now .deadline ≡ 0) ⊎ (passed (e .connection) i g now .side ≡ e .connection .side) →
+          passed (e .connection) i g now .deadline ≤ now
       go m (inl freed) = omega arith
       go m (inr same) = absurd (out (end-matches K e (openerAsk b) (rw same at (matches-end K _ (openerAsk b) m))))
 
@@ -118,7 +141,9 @@ module _ {K : Keys} (P : Pair K) where
     side-known r inside = ⊎-elim (λ is. omega (arith, ap (λ (e : Entry K connections). e .connection .side) is)) (λ s. sound-facts (t .clock) _ s .side) (sound r inside)
 
     -- what an end of the pair matches, the opener matches
-    asked-pairs : (e : Entry K connections) (i : ℕ) (a : Ask K) → e .connection .side ≤ 1 → AskOf i a → matches K connections e a ≡ true → pairs e a ≡ true
+    asked-pairs :
+        (e : Entry K connections) (i : ℕ) (a : Ask K) → e .connection .side ≤ 1 → AskOf i a → matches K connections e a ≡ true →
+        pairs e a ≡ true
     asked-pairs e i a e-known asked m = end-matches K e (openerAsk a) (go (asks-as i a asked) (matches-end K e a m))
       where
         go : Asks i a → EndOf K e (a .side) (a .key) → EndOf K e (P .side) (P .key)
@@ -142,7 +167,10 @@ module _ {K : Keys} (P : Pair K) where
           go (as-answerer z s k) = if-false _ 0 1 (rw (ne-eqb (a .side) (c .side) (λ e. absurd (omega (arith, e))))) ∙ sym z
 
     -- an arrival finds the opening's place, as its end's
-    pub arrival-found : (p i : ℕ) (c : Connection) (a : Ask K) → OurEntry t p c → OthersExpired t p → AskOf i a → clockUsed K connections t a < c .deadline → (search K connections t a ≡ p) × (senderOf K connections (record { key = P .key; connection = c }) a ≡ i)
+    pub arrival-found :
+        (p i : ℕ) (c : Connection) (a : Ask K) → OurEntry t p c → OthersExpired t p → AskOf i a →
+        clockUsed K connections t a < c .deadline →
+        (search K connections t a ≡ p) × (senderOf K connections (record { key = P .key; connection = c }) a ≡ i)
     arrival-found p i c a ours others asked live-now = (
       first-only K connections (liveMatch K connections (clockUsed K connections t a) a) (t .entries) _ p (firstFrom-first K connections _ (t .entries)) (ours .inside)
           (rw (ours .there) (live-match K (clockUsed K connections t a) a _ live-now (ours-matches c i a (ours .our-side) asked)))
@@ -151,11 +179,15 @@ module _ {K : Keys} (P : Pair K) where
     )
 
     -- an opening that found no live match: where its entry stands, and that no other of the pair is live
-    pub opening-made : (a : Ask K) → AskOf 0 a → search K connections t a ≡ length (t .entries) → filter K connections t a .answer ≡ 0 → OurEntry (filter K connections t a .table) (filter K connections t a .place) (opened (P .side) (a .segment) (clockUsed K connections t a)) × OthersExpired (filter K connections t a .table) (filter K connections t a .place)
+    pub opening-made :
+        (a : Ask K) → AskOf 0 a → search K connections t a ≡ length (t .entries) → filter K connections t a .answer ≡ 0 →
+        OurEntry (filter K connections t a .table) (filter K connections t a .place) (opened (P .side) (a .segment) (clockUsed K connections t a)) × OthersExpired (filter K connections t a .table) (filter K connections t a .place)
     unfolding opened
     opening-made a asked none passed-0 = go (outcome K t a) (asks-as 0 a asked)
       where
-        go : Outcome K t a → Asks 0 a → OurEntry (filter K connections t a .table) (filter K connections t a .place) (opened (P .side) (a .segment) (clockUsed K connections t a)) × OthersExpired (filter K connections t a .table) (filter K connections t a .place)
+        go :
+            Outcome K t a → Asks 0 a →
+            OurEntry (filter K connections t a .table) (filter K connections t a .place) (opened (P .side) (a .segment) (clockUsed K connections t a)) × OthersExpired (filter K connections t a .table) (filter K connections t a .place)
         go (refuses blocked _) _ = absurd (blocked passed-0)
         go (passes _ _ found _ _) _ = absurd (omega arith)
         go (makes _ _ _ _) (as-answerer z _ _) = absurd (omega arith)
@@ -167,7 +199,10 @@ module _ {K : Keys} (P : Pair K) where
         )
 
     -- a pass elsewhere, while ours is live, leaves ours as it is and makes no other of the pair live
-    pub pass-elsewhere : (p : ℕ) (c : Connection) (a : Ask K) → OurEntry t p c → OthersExpired t p → clockUsed K connections t a < c .deadline → filter K connections t a .answer ≡ 0 → (filter K connections t a .place ≡ p → ⊥) → OurEntry (filter K connections t a .table) p c × OthersExpired (filter K connections t a .table) p
+    pub pass-elsewhere :
+        (p : ℕ) (c : Connection) (a : Ask K) → OurEntry t p c → OthersExpired t p → clockUsed K connections t a < c .deadline →
+        filter K connections t a .answer ≡ 0 → (filter K connections t a .place ≡ p → ⊥) →
+        OurEntry (filter K connections t a .table) p c × OthersExpired (filter K connections t a .table) p
     pass-elsewhere p c a ours others live-now passed-0 elsewhere = go (outcome K t a)
       where
         go : Outcome K t a → OurEntry (filter K connections t a .table) p c × OthersExpired (filter K connections t a .table) p
@@ -181,14 +216,18 @@ module _ {K : Keys} (P : Pair K) where
             (λ b m. false-true (sym (rw (ours .there) at (unfound p (ours .inside))) ∙ live-match K (clockUsed K connections t a) a _ live-now (made-matched c a b (clockUsed K connections t a) (ours .our-side) from-0 m))))
 
     -- a pass on ours: the entry that it leaves, and the others as before
-    pub pass-on-ours : (p : ℕ) (c c' : Connection) (a : Ask K) → OurEntry t p c → OthersExpired t p → c' .side ≡ P .side → OurEntry (record { clock = clockUsed K connections t a; entries = set (t .entries) p (record { key = P .key; connection = c' }) }) p c' × OthersExpired (record { clock = clockUsed K connections t a; entries = set (t .entries) p (record { key = P .key; connection = c' }) }) p
+    pub pass-on-ours :
+        (p : ℕ) (c c' : Connection) (a : Ask K) → OurEntry t p c → OthersExpired t p → c' .side ≡ P .side →
+        OurEntry (record { clock = clockUsed K connections t a; entries = set (t .entries) p (record { key = P .key; connection = c' }) }) p c' × OthersExpired (record { clock = clockUsed K connections t a; entries = set (t .entries) p (record { key = P .key; connection = c' }) }) p
     pass-on-ours p c c' a ours others same-side = (
       written-here (t .entries) (clockUsed K connections t a) p _ c' (ours .inside) refl same-side,
       others-stay (t .entries) (clockUsed K connections t a) p p _ (others-later t p a others) (λ b out. absurd (out refl)),
     )
 
   -- a pass stores the clock used
-  pub pass-clock : (t : Table K connections) (a : Ask K) → filter K connections t a .answer ≡ 0 → filter K connections t a .table .clock ≡ clockUsed K connections t a
+  pub pass-clock :
+      (t : Table K connections) (a : Ask K) → filter K connections t a .answer ≡ 0 →
+      filter K connections t a .table .clock ≡ clockUsed K connections t a
   pass-clock t a passed-0 = go (outcome K t a)
     where
       go : Outcome K t a → filter K connections t a .table .clock ≡ clockUsed K connections t a
@@ -197,6 +236,8 @@ module _ {K : Keys} (P : Pair K) where
       go (makes _ _ _ is) = rw is
 
   -- on a match: the answer, the place and the table by the verdict
-  pub filter-matched : (t : Table K connections) (a : Ask K) → search K connections t a < length (t .entries) → filter K connections t a ≡ matched K connections t a (search K connections t a)
+  pub filter-matched :
+      (t : Table K connections) (a : Ask K) → search K connections t a < length (t .entries) →
+      filter K connections t a ≡ matched K connections t a (search K connections t a)
   unfolding filter
   filter-matched t a found = if-< _ _ found

@@ -80,14 +80,19 @@ module _ {K : Keys} (M : Machine K) where
       (answered-same (p .from) c ∙ now)
 
   -- a list with each call made from the filter's, where all are read as what they were made from
-  pub made-carries : (f : ListCall K → M .Call) (N : List (Event (ListCall K))) → readings M (map (withCall f) N) ≡ readings (listMachine K) N → Carries M (map (withCall f) N) N
+  pub made-carries :
+      (f : ListCall K → M .Call) (N : List (Event (ListCall K))) → readings M (map (withCall f) N) ≡ readings (listMachine K) N →
+      Carries M (map (withCall f) N) N
   made-carries f [] all = none
   made-carries f (send p ∷ N) all = sent (made-carries f N all)
   made-carries f (call b l ∷ N) all = let this : M .reads (f b) ≡ asks (b .0) = cc in called this (made-carries f N cc)
   made-carries f (delivery k p ∷ N) all = delivered (made-carries f N all)
 
   -- a refused call put in at any place
-  pub refused-carries : (k : ℕ) (q : M .Call) (n p : ℕ) → M .reads q ≡ refused n p → {L : List (Event (M .Call))} {N : List (Event (ListCall K))} → Carries M L N → Carries M (withOther k q L) N
+  pub refused-carries :
+      (k : ℕ) (q : M .Call) (n p : ℕ) → M .reads q ≡ refused n p → {L : List (Event (M .Call))} {N : List (Event (ListCall K))} →
+      Carries M L N →
+      Carries M (withOther k q L) N
   refused-carries zero q n p is c = refused-alone is c
   refused-carries (suc k) q n p is none = refused-alone is none
   refused-carries (suc k) q n p is (sent c) = sent (refused-carries k q n p is c)

@@ -15,10 +15,19 @@ use Rattle.honest.specs.Instance.{ListCall, listMachine}
 -- the same sendings, deliveries and labels, and each call asks what the filter's asks, or is refused and stands for none
 pub data Carries {K : Keys} (M : Machine K) : List (Event (M .Call)) → List (Event (ListCall K)) → Type 0 where
   none : Carries M [] []
-  sent : {p : LineSegment} {L : List (Event (M .Call))} {N : List (Event (ListCall K))} → Carries M L N → Carries M (send p ∷ L) (send p ∷ N)
-  called : {q : M .Call} {b : ListCall K} {l : Label} {L : List (Event (M .Call))} {N : List (Event (ListCall K))} → M .reads q ≡ asks (b .0) → Carries M L N → Carries M (call q l ∷ L) (call b l ∷ N)
-  refused-alone : {q : M .Call} {n p : ℕ} {L : List (Event (M .Call))} {N : List (Event (ListCall K))} → M .reads q ≡ refused n p → Carries M L N → Carries M (call q other ∷ L) N
-  delivered : {k : ℕ} {p : LineSegment} {L : List (Event (M .Call))} {N : List (Event (ListCall K))} → Carries M L N → Carries M (delivery k p ∷ L) (delivery k p ∷ N)
+  sent :
+      {p : LineSegment} {L : List (Event (M .Call))} {N : List (Event (ListCall K))} → Carries M L N →
+      Carries M (send p ∷ L) (send p ∷ N)
+  called :
+      {q : M .Call} {b : ListCall K} {l : Label} {L : List (Event (M .Call))} {N : List (Event (ListCall K))} →
+      M .reads q ≡ asks (b .0) → Carries M L N →
+      Carries M (call q l ∷ L) (call b l ∷ N)
+  refused-alone :
+      {q : M .Call} {n p : ℕ} {L : List (Event (M .Call))} {N : List (Event (ListCall K))} → M .reads q ≡ refused n p → Carries M L N →
+      Carries M (call q other ∷ L) N
+  delivered :
+      {k : ℕ} {p : LineSegment} {L : List (Event (M .Call))} {N : List (Event (ListCall K))} → Carries M L N →
+      Carries M (delivery k p ∷ L) (delivery k p ∷ N)
 
 -- A list whose calls are made from the filter's
 

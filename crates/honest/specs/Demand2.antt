@@ -33,7 +33,9 @@ AllPlaceable (a ∷ l) = Placeable (a .segment) × AllPlaceable l
 pub record TableStands {K : Keys} (t : Table K connections) (u : Table K histories) : Type 0 where
   pub clock : t .clock ≡ u .clock
   pub places : length (t .entries) ≡ length (u .entries)
-  pub entries : (p : ℕ) → p < length (t .entries) → Stands (getD (t .entries) p (freeEntry K connections)) (getD (u .entries) p (freeEntry K histories))
+  pub entries :
+      (p : ℕ) → p < length (t .entries) →
+      Stands (getD (t .entries) p (freeEntry K connections)) (getD (u .entries) p (freeEntry K histories))
 
 -- after a list of calls the table stands for the histories', and the next call has the answer and the place that they give
 pub record FollowsHistories (K : Keys) (n : ℕ) (l : List (Ask K)) : Type 0 where

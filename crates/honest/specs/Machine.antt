@@ -19,7 +19,7 @@ pub data Reading (A : Type 0) : Type 0 where
   asks : A → Reading A
   apart : Reading A
 
--- view and reads are part of what is claimed of a machine: the table that a state is, or that is a part of it, and what each call asks
+-- `view` says which table a state is, or is a part of it, `reads` what a call asks. Both are part of the claim, so read them too
 pub record Machine (K : Keys) : Type 1 where
   pub State : Type 0
   pub Call : Type 0

@@ -10,7 +10,7 @@ use lib.Dec.{T}
 use lib.ListN.{getD}
 use borrow.Author.Tests.{leb-true, eqb-true, eq-eqb}
 use Rattle.choice.specs.Choice.{_=ᵇ_, _≤ᵇ_}
-use Rattle.choice.proofs.Tests.{&&-true, false-true}
+use Rattle.choice.proofs.Tests.{&&-true, not-||-true}
 use Rattle.serial.proofs.Ring.{wrap-small}
 use Rattle.segment.specs.Flags.{syn, SYN, SYN+ACK, ACK, FIN+ACK}
 use Rattle.history.specs.History.{LineSegment, onWire, Placeable}
@@ -34,10 +34,6 @@ ends = record { side = 0; key = outward; start = starts }
 abbrev pub wellFormed : LineSegment → Bool
 wellFormed p = (p .window ≤ᵇ 65535) && (not (syn (p .flags) =ᵇ 1) || (p .length =ᵇ 1))
 
-implied : (s t : Bool) → not s || t ≡ true → s ≡ true → t ≡ true
-implied true t e _ = e
-implied false t e f = false-true f
-
 is-true : (b : Bool) → T b → b ≡ true
 is-true true _ = refl
 is-true false never = absurd never
@@ -49,7 +45,7 @@ placeable p formed =
       seq-fits = wrap-small (p .start);
       ack-fits = wrap-small (p .acked);
       window-fits = leb-true (p .window) 65535 (h .0);
-      syn-alone = λ e. eqb-true (p .length) 1 (implied _ _ (h .1) (eq-eqb (syn (p .flags)) 1 e));
+      syn-alone = λ e. eqb-true (p .length) 1 (not-||-true _ _ (h .1) (eq-eqb (syn (p .flags)) 1 e));
     }
 
 -- a segment that a packet can carry

@@ -12,7 +12,9 @@ use Rattle.octets.proofs.Overwrite.{getD-overwrite}
 abbrev pub Agree : List ℕ → ℕ → List ℕ → ℕ → ℕ → Type 0
 Agree l at m there n = (i : ℕ) → i < n → getD l (at + i) 0 ≡ getD m (there + i) 0
 
-pub part-agree : (l : List ℕ) (at : ℕ) (m : List ℕ) (there n : ℕ) → Agree l at m there n → (k size : ℕ) → k + size ≤ n → Agree l (at + k) m (there + k) size
+pub part-agree :
+    (l : List ℕ) (at : ℕ) (m : List ℕ) (there n : ℕ) → Agree l at m there n → (k size : ℕ) → k + size ≤ n →
+    Agree l (at + k) m (there + k) size
 part-agree l at m there n same k size inside i h = rw (add-assoc at k i, add-assoc there k i) (same (k + i) (omega arith))
 
 -- what was written over stands where it was written

@@ -19,7 +19,9 @@ pub bigEndian-2 : (l : List ℕ) (at : ℕ) → bigEndian 2 l at ≡ getD l at 0
 unfolding bigEndian number
 bigEndian-2 l at = rw add-zero (omega arith)
 
-pub bigEndian-4 : (l : List ℕ) (at : ℕ) → bigEndian 4 l at ≡ ((getD l at 0 * 256 + getD l (at + 1) 0) * 256 + getD l (at + 2) 0) * 256 + getD l (at + 3) 0
+pub bigEndian-4 :
+    (l : List ℕ) (at : ℕ) →
+    bigEndian 4 l at ≡ ((getD l at 0 * 256 + getD l (at + 1) 0) * 256 + getD l (at + 2) 0) * 256 + getD l (at + 3) 0
 unfolding bigEndian number
 bigEndian-4 l at = rw add-zero (omega arith)
 
@@ -57,7 +59,10 @@ bigEndian-agree l at m there n same = number-cong 256 (λ i. getD l (at + i) 0) 
 -- Reading and writing
 
 -- two writes of half the width are one of the whole
-pub overwrite-halves : (n v : ℕ) (l half whole : List ℕ) (at : ℕ) → at + n ≤ length l → half ≡ overwrite l at (octetsOf n (v / 256 ^ n)) → whole ≡ overwrite half (at + n) (octetsOf n (v % 256 ^ n)) → whole ≡ overwrite l at (octetsOf (n + n) v)
+pub overwrite-halves :
+    (n v : ℕ) (l half whole : List ℕ) (at : ℕ) → at + n ≤ length l → half ≡ overwrite l at (octetsOf n (v / 256 ^ n)) →
+    whole ≡ overwrite half (at + n) (octetsOf n (v % 256 ^ n)) →
+    whole ≡ overwrite l at (octetsOf (n + n) v)
 overwrite-halves n v l half whole at fits first second =
     overwrite-both l at (octetsOf n (v / 256 ^ n)) (octetsOf n (v % 256 ^ n)) first second (length-octetsOf n (v / 256 ^ n)) refl fits
     ∙ ap (overwrite l at) (sym (octetsOf-add n n v))
@@ -75,7 +80,9 @@ bigEndian-octetsOf n v small =
     ∙ number-digits 256 n v (omega arith) small
 
 -- a number is read back from where its octets were written
-pub bigEndian-overwrite : (n v : ℕ) (l : List ℕ) (at : ℕ) → at + n ≤ length l → v < 256 ^ n → bigEndian n (overwrite l at (octetsOf n v)) at ≡ v
+pub bigEndian-overwrite :
+    (n v : ℕ) (l : List ℕ) (at : ℕ) → at + n ≤ length l → v < 256 ^ n →
+    bigEndian n (overwrite l at (octetsOf n v)) at ≡ v
 bigEndian-overwrite n v l at fits small =
     bigEndian-agree (overwrite l at (octetsOf n v)) at (octetsOf n v) 0 n (overwrite-agree l at (octetsOf n v) n (length-octetsOf n v) fits)
     ∙ bigEndian-octetsOf n v small

@@ -72,7 +72,9 @@ number-digits base (suc n) v pos h =
     rw (rest, here) (div-add-mod' v base)
 
 -- and the digits of the number that digits stand for are these
-pub digits-number : (base : ℕ) (f : ℕ → ℕ) (n : ℕ) → 0 < base → ((i : ℕ) → i < n → f i < base) → digits base n (number base f n) ≡ tabulate f n
+pub digits-number :
+    (base : ℕ) (f : ℕ → ℕ) (n : ℕ) → 0 < base → ((i : ℕ) → i < n → f i < base) →
+    digits base n (number base f n) ≡ tabulate f n
 unfolding number digits tabulate
 digits-number base f zero pos small = refl
 digits-number base f (suc n) pos small =

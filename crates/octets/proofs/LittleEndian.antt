@@ -26,7 +26,9 @@ lowest-and-rest : (w low rest : ℕ) → low < 256 → w ≡ rest * 256 + low �
 lowest-and-rest w low rest small is = (omega arith, omega arith)
 
 -- a word's octets, lowest first
-littleOctets-of : (a b c d w : ℕ) → a < 256 → b < 256 → c < 256 → w ≡ d * 16777216 + c * 65536 + b * 256 + a → littleOctets w ≡ a ∷ b ∷ c ∷ d ∷ []
+littleOctets-of :
+    (a b c d w : ℕ) → a < 256 → b < 256 → c < 256 → w ≡ d * 16777216 + c * 65536 + b * 256 + a →
+    littleOctets w ≡ a ∷ b ∷ c ∷ d ∷ []
 littleOctets-of a b c d w ha hb hc is =
     let first = lowest-and-rest w a (d * 65536 + c * 256 + b) ha (omega arith) in
     let second = lowest-and-rest (w / 256) b (d * 256 + c) hb (first .1 ∙ omega arith) in
@@ -34,7 +36,9 @@ littleOctets-of a b c d w ha hb hc is =
     rw (first .0, second .0, third .0, third .1)
 
 -- those of a word turned are the word's own
-pub littleOctets-swapped : (v w : ℕ) → v < 4294967296 → w ≡ v % 256 * 16777216 + v / 256 % 256 * 65536 + v / 256 / 256 % 256 * 256 + v / 256 / 256 / 256 → littleOctets w ≡ octetsOf 4 v
+pub littleOctets-swapped :
+    (v w : ℕ) → v < 4294967296 → w ≡ v % 256 * 16777216 + v / 256 % 256 * 65536 + v / 256 / 256 % 256 * 256 + v / 256 / 256 / 256 →
+    littleOctets w ≡ octetsOf 4 v
 unfolding octetsOf digits
 littleOctets-swapped v w small is =
     let top : v / 256 / 256 / 256 % 256 ≡ v / 256 / 256 / 256 = omega arith in

@@ -88,11 +88,16 @@ module _ (l : List ℕ) (at : ℕ) (vs : List ℕ) (fits : at + length vs ≤ le
       ∙ ap (λ (j : ℕ). getD l j 0) past
 
 -- a second part, where the first one's length is told by an equation
-pub overwrite-join : (l : List ℕ) (at n : ℕ) (vs ws : List ℕ) → length vs ≡ n → at + n ≤ length l → overwrite (overwrite l at vs) (at + n) ws ≡ overwrite l at (vs ++ ws)
+pub overwrite-join :
+    (l : List ℕ) (at n : ℕ) (vs ws : List ℕ) → length vs ≡ n → at + n ≤ length l →
+    overwrite (overwrite l at vs) (at + n) ws ≡ overwrite l at (vs ++ ws)
 overwrite-join l at n vs ws e fits = rw (← e) (overwrite-append l at vs (rw e fits) ws)
 
 -- a write, then one just past it
-pub overwrite-both : {mid last : List ℕ} {n next : ℕ} (l : List ℕ) (at : ℕ) (vs ws : List ℕ) → mid ≡ overwrite l at vs → last ≡ overwrite mid next ws → length vs ≡ n → at + n ≡ next → next ≤ length l → last ≡ overwrite l at (vs ++ ws)
+pub overwrite-both :
+    {mid last : List ℕ} {n next : ℕ} (l : List ℕ) (at : ℕ) (vs ws : List ℕ) → mid ≡ overwrite l at vs → last ≡ overwrite mid next ws →
+    length vs ≡ n → at + n ≡ next → next ≤ length l →
+    last ≡ overwrite l at (vs ++ ws)
 overwrite-both {n = n} {next = next} l at vs ws first second size there fits =
     second
     ∙ ap (λ (k : List ℕ). overwrite k next ws) first
@@ -100,7 +105,9 @@ overwrite-both {n = n} {next = next} l at vs ws first second size there fits =
     ∙ overwrite-join l at n vs ws size (omega arith)
 
 -- a store just past a part that is still to be written makes that part one longer
-pub overwrite-set : (l : List ℕ) (at n v : ℕ) (vs : List ℕ) → length vs ≡ n → at + n < length l → overwrite (set l (at + n) v) at vs ≡ overwrite l at (vs ++ (v ∷ []))
+pub overwrite-set :
+    (l : List ℕ) (at n v : ℕ) (vs : List ℕ) → length vs ≡ n → at + n < length l →
+    overwrite (set l (at + n) v) at vs ≡ overwrite l at (vs ++ (v ∷ []))
 unfolding overwrite
 overwrite-set l at n v vs e fits =
     let head : take at (set l (at + n) v) ≡ take at l = take-set-le at l (at + n) v (omega arith) in
@@ -111,7 +118,9 @@ overwrite-set l at n v vs e fits =
     rw (e, head, tail, end) (simp append-assoc)
 
 -- a front that grows by one place at a time
-pub overwrite-tabulate : (l : List ℕ) (f : ℕ → ℕ) (i : ℕ) → i < length l → set (overwrite l 0 (tabulate f i)) i (f i) ≡ overwrite l 0 (tabulate f (i + 1))
+pub overwrite-tabulate :
+    (l : List ℕ) (f : ℕ → ℕ) (i : ℕ) → i < length l →
+    set (overwrite l 0 (tabulate f i)) i (f i) ≡ overwrite l 0 (tabulate f (i + 1))
 unfolding tabulate
 overwrite-tabulate l f i h =
     let size : 0 + length (tabulate f i) ≤ length l = rw (length-tabulate f i) (omega arith) in
@@ -119,7 +128,9 @@ overwrite-tabulate l f i h =
     ∙ rw add-one (rw zero-add at (overwrite-join l 0 i (tabulate f i) (f i ∷ []) (length-tabulate f i) (omega arith)))
 
 -- a copy that grows by one element at a time
-pub overwrite-take-next : (l xs : List ℕ) (at i : ℕ) → i < length xs → at + i < length l → set (overwrite l at (take i xs)) (at + i) (getD xs i 0) ≡ overwrite l at (take (i + 1) xs)
+pub overwrite-take-next :
+    (l xs : List ℕ) (at i : ℕ) → i < length xs → at + i < length l →
+    set (overwrite l at (take i xs)) (at + i) (getD xs i 0) ≡ overwrite l at (take (i + 1) xs)
 overwrite-take-next l xs at i inside fits =
     let size : length (take i xs) ≡ i = length-take-le i xs (omega arith) in
     set≡overwrite (overwrite l at (take i xs)) (at + i) (getD xs i 0) (rw (length-overwrite l at (take i xs) (omega arith)) (omega arith))
@@ -134,7 +145,9 @@ set-set≡overwrite l at v w fits =
     (overwrite-join l at 1 (v ∷ []) (w ∷ []) refl (omega arith))
 
 -- four stores, side by side
-pub four-sets≡overwrite : (l : List ℕ) (at a b c d : ℕ) → at + 4 ≤ length l → set (set (set (set l at a) (at + 1) b) (at + 2) c) (at + 3) d ≡ overwrite l at (a ∷ b ∷ c ∷ d ∷ [])
+pub four-sets≡overwrite :
+    (l : List ℕ) (at a b c d : ℕ) → at + 4 ≤ length l →
+    set (set (set (set l at a) (at + 1) b) (at + 2) c) (at + 3) d ≡ overwrite l at (a ∷ b ∷ c ∷ d ∷ [])
 four-sets≡overwrite l at a b c d fits =
     let half : List ℕ = overwrite l at (a ∷ b ∷ []) in
     let first : set (set l at a) (at + 1) b ≡ half = set-set≡overwrite l at a b (omega arith) in

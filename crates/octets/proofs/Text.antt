@@ -19,7 +19,9 @@ module _ (char : ℕ → ℕ) (base : ℕ) where
   map-digits-suc n v = map-append char (digits base n (v / base)) (v % base ∷ [])
 
   -- the last character, stored first, leaves those before it to be written
-  pub overwrite-map-digits : (l : List ℕ) (at i v : ℕ) → 0 < i → at + i ≤ length l → overwrite (set l (at + (i - 1)) (char (v % base))) at (map char (digits base (i - 1) (v / base))) ≡ overwrite l at (map char (digits base i v))
+  pub overwrite-map-digits :
+      (l : List ℕ) (at i v : ℕ) → 0 < i → at + i ≤ length l →
+      overwrite (set l (at + (i - 1)) (char (v % base))) at (map char (digits base (i - 1) (v / base))) ≡ overwrite l at (map char (digits base i v))
   overwrite-map-digits l at i v some fits =
       let e : suc (i - 1) ≡ i = omega arith in
       overwrite-set l at (i - 1) (char (v % base)) (map char (digits base (i - 1) (v / base))) (length-map-digits (i - 1) (v / base)) (omega arith)

@@ -39,7 +39,9 @@ abbrev pub afterRow10 : PacketRead → FlagCheck → PacketRead
 afterRow10 read (Bad cause) = Refused cause
 afterRow10 read Fine = read
 
-row10-line : (read rest : PacketRead) (t : Bool) (cause : Cause) (check : FlagCheck) → rest ≡ afterRow10 read check → (if t then Refused cause else rest) ≡ afterRow10 read (if t then Bad cause else check)
+row10-line :
+    (read rest : PacketRead) (t : Bool) (cause : Cause) (check : FlagCheck) → rest ≡ afterRow10 read check →
+    (if t then Refused cause else rest) ≡ afterRow10 read (if t then Bad cause else check)
 row10-line read rest t cause check e = if-else t _ e ∙ sym (if-ap (afterRow10 read) t (Bad cause) check)
 
 -- row 9's lines, then row 10
@@ -54,7 +56,9 @@ rows9to10≡row9-then-row10 p h t =
 
 -- Row by row
 
-pub past-row5 : (p : List ℕ) → 20 ≤ length p → version p ≡ 4 → 20 ≤ headerLength p → headerLength p ≤ totalLength p → totalLength p ≤ length p → readPacket p ≡ rows6to10 p (headerLength p) (totalLength p)
+pub past-row5 :
+    (p : List ℕ) → 20 ≤ length p → version p ≡ 4 → 20 ≤ headerLength p → headerLength p ≤ totalLength p → totalLength p ≤ length p →
+    readPacket p ≡ rows6to10 p (headerLength p) (totalLength p)
 past-row5 p whole four five room given =
     readPacket≡row5-then-tail p ∙ if-<-not _ _ whole ∙ if-≠-not _ _ four ∙ if-<-not _ _ five ∙ if-<-not _ _ room ∙ if-<-not _ _ given
 

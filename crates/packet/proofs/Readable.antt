@@ -26,7 +26,9 @@ use Rattle.packet.proofs.Read.{afterRow10, readPacket≡row5-then-tail,
 
 -- What a list gives that took none of its lines
 
-past-refusal : {f : Flow} {g : Segment} {rest : PacketRead} (t : Bool) (cause : Cause) → (if t then Refused cause else rest) ≡ Tcp f g → rest ≡ Tcp f g
+past-refusal :
+    {f : Flow} {g : Segment} {rest : PacketRead} (t : Bool) (cause : Cause) → (if t then Refused cause else rest) ≡ Tcp f g →
+    rest ≡ Tcp f g
 unfolding if_then_else_
 past-refusal true cause e = false-true cc
 past-refusal false cause e = e
@@ -36,7 +38,9 @@ unfolding if_then_else_
 past-bad {t = true} cause e = false-true cc
 past-bad {t = false} cause e = (refl, e)
 
-past-check : {f : Flow} {g : Segment} (read : PacketRead) (check : FlagCheck) → afterRow10 read check ≡ Tcp f g → (check ≡ Fine) × (read ≡ Tcp f g)
+past-check :
+    {f : Flow} {g : Segment} (read : PacketRead) (check : FlagCheck) → afterRow10 read check ≡ Tcp f g →
+    (check ≡ Fine) × (read ≡ Tcp f g)
 past-check read (Bad cause) e = false-true cc
 past-check read Fine e = (refl, e)
 
@@ -95,7 +99,9 @@ module _ (f n : ℕ) (fine : row10 f n ≡ Fine) where
 
 -- The segment
 
-segmentOf-readable : (p : List ℕ) (h t : ℕ) → Octets p → t < 65536 → row10 (controlBits p h) (payload p h t) ≡ Fine → Readable (segmentOf p h t)
+segmentOf-readable :
+    (p : List ℕ) (h t : ℕ) → Octets p → t < 65536 → row10 (controlBits p h) (payload p h t) ≡ Fine →
+    Readable (segmentOf p h t)
 segmentOf-readable p h t octets small fine =
     let x : ℕ = controlBits p h in
     let n : ℕ = payload p h t in

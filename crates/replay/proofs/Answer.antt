@@ -54,7 +54,9 @@ readLine-bounded line =
     (λ fits. (refl, ltb-false room (packetLength line) fits))))
 
 -- what the filter is shown: the packet of the line
-pub frame-packet : (line packet : List ℕ) (side clock n : ℕ) → readLine line room ≡ Frame side clock n → length packet ≡ room → (n ≤ room) × (take n (drop 0 (packetAfterReading line packet)) ≡ packetOf line)
+pub frame-packet :
+    (line packet : List ℕ) (side clock n : ℕ) → readLine line room ≡ Frame side clock n → length packet ≡ room →
+    (n ≤ room) × (take n (drop 0 (packetAfterReading line packet)) ≡ packetOf line)
 unfolding packetAfter packetOf
 frame-packet line packet side clock n frame size =
     let bounds : (n ≡ packetLength line) × (n ≤ room) = rw frame at (readLine-bounded line) in
@@ -69,7 +71,12 @@ unfolding resultOf
 resultOf-read line t read e = ap (λ r. ofRead r line t) (sym e)
 
 -- the filter's answer to the packet of a line
-pub resultOf-frame : (line t packet after : List ℕ) (side clock n : ℕ) (reply : Reply) (shown : Shown) → Frame side clock n ≡ readLine line room → packet ≡ packetOf line → (reply ≡ replyOf (outcomeOf side clock t packet)) × (after ≡ tableAfter t (outcomeOf side clock t packet)) → shown ≡ shownPlace (reply .place) → _≡_ {A = Result} (record { answer = reply .answer; shown = shown; table = after }) (resultOf line t)
+pub resultOf-frame :
+    (line t packet after : List ℕ) (side clock n : ℕ) (reply : Reply) (shown : Shown) → Frame side clock n ≡ readLine line room →
+    packet ≡ packetOf line →
+    (reply ≡ replyOf (outcomeOf side clock t packet)) × (after ≡ tableAfter t (outcomeOf side clock t packet)) →
+    shown ≡ shownPlace (reply .place) →
+    _≡_ {A = Result} (record { answer = reply .answer; shown = shown; table = after }) (resultOf line t)
 resultOf-frame line t packet after side clock n reply shown whole is called place =
     rw (resultOf-read line t (Frame side clock n) whole, ← is, place, called .1, called .0)
 
@@ -136,13 +143,19 @@ result-short line t = read-short line t (readLine line room) (readLine-bounded l
 -- The end of a line
 
 -- a line's result, written and counted
-pub withLine-result : (m : Memory) (s : Result) (out : List ℕ) (r : Progress) → s ≡ resultOf (take (m .progress .kept) (m .line)) (m .table) → (r ≡ withAnswer (m .progress) (s .answer) (s .shown)) × (out ≡ overwrite (m .out) (m .progress .used) (resultText (s .answer) (s .shown))) → memory (s .table) (m .line) out r ≡ withLine m
+pub withLine-result :
+    (m : Memory) (s : Result) (out : List ℕ) (r : Progress) → s ≡ resultOf (take (m .progress .kept) (m .line)) (m .table) →
+    (r ≡ withAnswer (m .progress) (s .answer) (s .shown)) × (out ≡ overwrite (m .out) (m .progress .used) (resultText (s .answer) (s .shown))) →
+    memory (s .table) (m .line) out r ≡ withLine m
 unfolding withLine
 withLine-result m s out r result put = rw (put .0, put .1) (ap (withResult m) result)
 
 -- The end of the input
 
 -- the totals, written
-pub withTotal-put : (m : Memory) (out : List ℕ) (used : ℕ) → (used ≡ m .progress .used + length (totalText (m .progress .passed) (m .progress .lines))) × (out ≡ overwrite (m .out) (m .progress .used) (totalText (m .progress .passed) (m .progress .lines))) → memory (m .table) (m .line) out (withUsed (m .progress) used) ≡ withTotal m
+pub withTotal-put :
+    (m : Memory) (out : List ℕ) (used : ℕ) →
+    (used ≡ m .progress .used + length (totalText (m .progress .passed) (m .progress .lines))) × (out ≡ overwrite (m .out) (m .progress .used) (totalText (m .progress .passed) (m .progress .lines))) →
+    memory (m .table) (m .line) out (withUsed (m .progress) used) ≡ withTotal m
 unfolding withTotal
 withTotal-put m out used put = rw (put .0, put .1)

@@ -25,13 +25,17 @@ unfolding beforeNewline
 beforeNewline-here l i inside e = rw (drop-cons l i 0 inside) (if-= _ _ e)
 
 -- a byte that is none: the first one is the first after it
-pub beforeNewline-next : (l : List ℕ) (i : ℕ) → i < length l → (getD l i 0 ≡ newline → ⊥) → i + beforeNewline (drop i l) ≡ i + 1 + beforeNewline (drop (i + 1) l)
+pub beforeNewline-next :
+    (l : List ℕ) (i : ℕ) → i < length l → (getD l i 0 ≡ newline → ⊥) →
+    i + beforeNewline (drop i l) ≡ i + 1 + beforeNewline (drop (i + 1) l)
 unfolding beforeNewline
 beforeNewline-next l i inside e =
     rw (drop-cons l i 0 inside, add-one) (omega (arith, if-=-not 0 (suc (beforeNewline (drop (suc i) l))) e))
 
 -- and so for a block of bytes
-pub beforeNewline-block : (n : ℕ) (l : List ℕ) (i : ℕ) → i + n ≤ length l → ((k : ℕ) → k < n → getD l (i + k) 0 ≡ newline → ⊥) → i + beforeNewline (drop i l) ≡ i + n + beforeNewline (drop (i + n) l)
+pub beforeNewline-block :
+    (n : ℕ) (l : List ℕ) (i : ℕ) → i + n ≤ length l → ((k : ℕ) → k < n → getD l (i + k) 0 ≡ newline → ⊥) →
+    i + beforeNewline (drop i l) ≡ i + n + beforeNewline (drop (i + n) l)
 beforeNewline-block zero l i fits none = let e : i + 0 ≡ i = omega arith in rw e
 beforeNewline-block (suc n) l i fits none =
     let here : i + 0 ≡ i = omega arith in
@@ -47,7 +51,9 @@ beforeNewline-end l i past = rw (drop-of-length-le l past)
 -- One more byte
 
 -- where there is room
-pub withByte-room : (m : Memory) (b : ℕ) → m .progress .kept < length (m .line) → withByte m b ≡ memory (m .table) (set (m .line) (m .progress .kept) b) (m .out) (withKept (m .progress) (m .progress .kept + 1))
+pub withByte-room :
+    (m : Memory) (b : ℕ) → m .progress .kept < length (m .line) →
+    withByte m b ≡ memory (m .table) (set (m .line) (m .progress .kept) b) (m .out) (withKept (m .progress) (m .progress .kept + 1))
 unfolding withByte
 withByte-room m b inside = if-< _ _ inside
 
@@ -70,11 +76,15 @@ withBytes-full m [] full = refl
 withBytes-full m (b ∷ bytes) full = rw (withByte-full m b full) (withBytes-full m bytes full)
 
 -- nothing more is kept
-kept-nothing : (m : Memory) (n : ℕ) → n ≡ m .progress .kept → m ≡ memory (m .table) (overwrite (m .line) (m .progress .kept) []) (m .out) (withKept (m .progress) n)
+kept-nothing :
+    (m : Memory) (n : ℕ) → n ≡ m .progress .kept →
+    m ≡ memory (m .table) (overwrite (m .line) (m .progress .kept) []) (m .out) (withKept (m .progress) n)
 kept-nothing m n e = rw (overwrite-nothing (m .line) (m .progress .kept), e)
 
 -- in a buffer with room for so many they stand where it was used up to, those that there is no room for left out
-withBytes-room : (m : Memory) (room : ℕ) (bytes : List ℕ) → m .progress .kept + room ≡ length (m .line) → withBytes m bytes ≡ memory (m .table) (overwrite (m .line) (m .progress .kept) (take room bytes)) (m .out) (withKept (m .progress) (m .progress .kept + length (take room bytes)))
+withBytes-room :
+    (m : Memory) (room : ℕ) (bytes : List ℕ) → m .progress .kept + room ≡ length (m .line) →
+    withBytes m bytes ≡ memory (m .table) (overwrite (m .line) (m .progress .kept) (take room bytes)) (m .out) (withKept (m .progress) (m .progress .kept + length (take room bytes)))
 unfolding withBytes
 withBytes-room m zero bytes e = withBytes-full m bytes (omega arith) ∙ kept-nothing m _ (omega arith)
 withBytes-room m (suc room) [] e = kept-nothing m _ (omega arith)
@@ -109,12 +119,16 @@ unfolding afterPiece afterByte
 afterPiece-at-newline m b bytes e = ap (λ n. afterPiece n bytes) (if-= _ _ e)
 
 -- any other is kept
-pub afterPiece-at-other : (m : Memory) (b : ℕ) (bytes : List ℕ) → (b ≡ newline → ⊥) → afterPiece m (b ∷ bytes) ≡ afterPiece (withByte m b) bytes
+pub afterPiece-at-other :
+    (m : Memory) (b : ℕ) (bytes : List ℕ) → (b ≡ newline → ⊥) →
+    afterPiece m (b ∷ bytes) ≡ afterPiece (withByte m b) bytes
 unfolding afterPiece afterByte
 afterPiece-at-other m b bytes e = ap (λ n. afterPiece n bytes) (if-=-not _ _ e)
 
 -- all bytes before the first newline are kept
-afterPiece-kept : (m : Memory) (bytes : List ℕ) → afterPiece m bytes ≡ afterPiece (withBytes m (take (beforeNewline bytes) bytes)) (drop (beforeNewline bytes) bytes)
+afterPiece-kept :
+    (m : Memory) (bytes : List ℕ) →
+    afterPiece m bytes ≡ afterPiece (withBytes m (take (beforeNewline bytes) bytes)) (drop (beforeNewline bytes) bytes)
 unfolding beforeNewline withBytes
 afterPiece-kept m [] = refl
 afterPiece-kept m (b ∷ bytes) =
@@ -125,7 +139,9 @@ afterPiece-kept m (b ∷ bytes) =
     (true-or-false (b =ᵇ newline))
 
 -- the bytes of a piece from at on, up to a newline or the end, are kept
-pub afterPiece-line : (m : Memory) (piece line : List ℕ) (at end kept : ℕ) → m .progress .kept ≤ length (m .line) → end ≡ at + beforeNewline (drop at piece) →
+pub afterPiece-line :
+    (m : Memory) (piece line : List ℕ) (at end kept : ℕ) → m .progress .kept ≤ length (m .line) →
+    end ≡ at + beforeNewline (drop at piece) →
     (kept ≡ m .progress .kept + length (fitting (m .line) (m .progress .kept) (take (end - at) (drop at piece)))) × (line ≡ overwrite (m .line) (m .progress .kept) (fitting (m .line) (m .progress .kept) (take (end - at) (drop at piece)))) →
     afterPiece m (drop at piece) ≡ afterPiece (memory (m .table) line (m .out) (withKept (m .progress) kept)) (drop end piece)
 afterPiece-line m piece line at end kept inside is added =
@@ -148,7 +164,9 @@ newline-there (b ∷ l) inside =
     (λ _ h. newline-there l (omega arith)) inside
 
 -- and the newline ends the line
-pub afterPiece-newline : (m : Memory) (piece : List ℕ) (at end : ℕ) → end ≡ at + beforeNewline (drop at piece) → end < length piece → afterPiece m (drop end piece) ≡ afterPiece (withLine m) (drop (end + 1) piece)
+pub afterPiece-newline :
+    (m : Memory) (piece : List ℕ) (at end : ℕ) → end ≡ at + beforeNewline (drop at piece) → end < length piece →
+    afterPiece m (drop end piece) ≡ afterPiece (withLine m) (drop (end + 1) piece)
 afterPiece-newline m piece at end is inside =
     let k = beforeNewline (drop at piece) in
     let byte : getD piece end 0 ≡ newline =

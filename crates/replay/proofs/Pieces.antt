@@ -58,7 +58,9 @@ follows-start t l o p start size =
     }
 
 -- writing what there is to write
-follows-emptied : (n : ℕ) (done : List ℕ) (m : Memory) (r : Run) (begun : List ℕ) → Follows n done m r begun → Follows n (done ++ toWrite m) (emptied m) r begun
+follows-emptied :
+    (n : ℕ) (done : List ℕ) (m : Memory) (r : Run) (begun : List ℕ) → Follows n done m r begun →
+    Follows n (done ++ toWrite m) (emptied m) r begun
 follows-emptied n done m r begun f =
     record {
       size = f .size;
@@ -75,7 +77,9 @@ follows-emptied n done m r begun f =
 -- A byte of a line
 
 -- a buffer that has room holds the whole line so far
-byte-kept : (n : ℕ) (done : List ℕ) (m : Memory) (r : Run) (begun : List ℕ) (b : ℕ) → Follows n done m r begun → length begun < lineRoom → Follows n done (withByte m b) r (begun ++ (b ∷ []))
+byte-kept :
+    (n : ℕ) (done : List ℕ) (m : Memory) (r : Run) (begun : List ℕ) (b : ℕ) → Follows n done m r begun → length begun < lineRoom →
+    Follows n done (withByte m b) r (begun ++ (b ∷ []))
 byte-kept n done m r begun b f short =
     let k = m .progress .kept in
     let inside : k < length (m .line) = omega arith in
@@ -98,7 +102,9 @@ byte-kept n done m r begun b f short =
     }
 
 -- one that is full holds its first 4,112 bytes
-byte-dropped : (n : ℕ) (done : List ℕ) (m : Memory) (r : Run) (begun : List ℕ) (b : ℕ) → Follows n done m r begun → lineRoom ≤ length begun → Follows n done (withByte m b) r (begun ++ (b ∷ []))
+byte-dropped :
+    (n : ℕ) (done : List ℕ) (m : Memory) (r : Run) (begun : List ℕ) (b : ℕ) → Follows n done m r begun → lineRoom ≤ length begun →
+    Follows n done (withByte m b) r (begun ++ (b ∷ []))
 byte-dropped n done m r begun b f long =
     let longer : length (begun ++ (b ∷ [])) ≡ length begun + 1 = length-append begun (b ∷ []) in
     rw (withByte-full m b (omega arith))
@@ -115,14 +121,18 @@ byte-dropped n done m r begun b f long =
     }
 
 -- so either way the memory goes on beside the run
-follows-byte : (n : ℕ) (done : List ℕ) (m : Memory) (r : Run) (begun : List ℕ) (b : ℕ) → Follows n done m r begun → Follows n done (withByte m b) r (begun ++ (b ∷ []))
+follows-byte :
+    (n : ℕ) (done : List ℕ) (m : Memory) (r : Run) (begun : List ℕ) (b : ℕ) → Follows n done m r begun →
+    Follows n done (withByte m b) r (begun ++ (b ∷ []))
 follows-byte n done m r begun b f =
     ⊎-elim (byte-kept n done m r begun b f) (byte-dropped n done m r begun b f) (lt-or-ge (length begun) lineRoom)
 
 -- The end of a line
 
 -- the line's first 4,112 bytes have the result of the whole line
-same-result : (n : ℕ) (done : List ℕ) (m : Memory) (r : Run) (begun : List ℕ) → Follows n done m r begun → resultOf (take (m .progress .kept) (m .line)) (m .table) ≡ resultOf begun (r .table)
+same-result :
+    (n : ℕ) (done : List ℕ) (m : Memory) (r : Run) (begun : List ℕ) → Follows n done m r begun →
+    resultOf (take (m .progress .kept) (m .line)) (m .table) ≡ resultOf begun (r .table)
 same-result n done m r begun f =
     ap (λ l. resultOf l (m .table)) (f .line) ∙ resultOf-cut begun (m .table) ∙ ap (resultOf begun) (f .table)
 
@@ -131,7 +141,9 @@ add-modulo : (a b x : ℕ) → a ≡ b % 2 ^ 64 → (a + x) % 2 ^ 64 ≡ (b + x)
 add-modulo a b x e = omega arith
 
 -- the text is added, the table and the totals are the run's, and the next line has no byte yet
-follows-line : (n : ℕ) (done : List ℕ) (m : Memory) (r : Run) (begun : List ℕ) → Follows n done m r begun → m .progress .used + resultRoom ≤ n → Follows n done (withLine m) (afterLine r begun) []
+follows-line :
+    (n : ℕ) (done : List ℕ) (m : Memory) (r : Run) (begun : List ℕ) → Follows n done m r begun → m .progress .used + resultRoom ≤ n →
+    Follows n done (withLine m) (afterLine r begun) []
 unfolding withLine afterLine
 follows-line n done m r begun f fits =
     let s = resultOf begun (r .table) in
@@ -170,7 +182,10 @@ abbrev textOf : Run → List ℕ
 textOf r = r .text ++ totalText (r .passed) (r .lines)
 
 -- the totals are below 2^64, so they are the run's
-total-written : (n : ℕ) (done : List ℕ) (m : Memory) (r : Run) (begun : List ℕ) → Follows n done m r begun → m .progress .used + totalRoom ≤ n → Counts r → done ++ toWrite (withTotal m) ≡ textOf r
+total-written :
+    (n : ℕ) (done : List ℕ) (m : Memory) (r : Run) (begun : List ℕ) → Follows n done m r begun → m .progress .used + totalRoom ≤ n →
+    Counts r →
+    done ++ toWrite (withTotal m) ≡ textOf r
 unfolding withTotal
 total-written n done m r begun f fits counts =
     let text = totalText (m .progress .passed) (m .progress .lines) in
@@ -189,17 +204,24 @@ runFrom : Run → List ℕ → List ℕ → Run
 runFrom r begun input = afterLines r (linesFrom begun input)
 
 -- a newline ends the line that has begun
-runFrom-newline : (r : Run) (begun input : List ℕ) (b : ℕ) → b ≡ newline → runFrom r begun (b ∷ input) ≡ runFrom (afterLine r begun) [] input
+runFrom-newline :
+    (r : Run) (begun input : List ℕ) (b : ℕ) → b ≡ newline →
+    runFrom r begun (b ∷ input) ≡ runFrom (afterLine r begun) [] input
 unfolding runFrom linesFrom afterLines
 runFrom-newline r begun input b e = ap (afterLines r) (if-= _ _ e)
 
 -- any other byte is one of its bytes
-runFrom-other : (r : Run) (begun input : List ℕ) (b : ℕ) → (b ≡ newline → ⊥) → runFrom r begun (b ∷ input) ≡ runFrom r (begun ++ (b ∷ [])) input
+runFrom-other :
+    (r : Run) (begun input : List ℕ) (b : ℕ) → (b ≡ newline → ⊥) →
+    runFrom r begun (b ∷ input) ≡ runFrom r (begun ++ (b ∷ [])) input
 unfolding runFrom linesFrom
 runFrom-other r begun input b e = ap (afterLines r) (if-=-not _ _ e)
 
 -- the end of the input: the line that has begun, if it has any byte, and the totals
-end-written : (n : ℕ) (done : List ℕ) (m : Memory) (r : Run) (begun : List ℕ) → Follows n done m r begun → m .progress .used + resultRoom + totalRoom ≤ n → Counts (runFrom r begun []) → done ++ toWrite (withTotal (atEnd m)) ≡ textOf (runFrom r begun [])
+end-written :
+    (n : ℕ) (done : List ℕ) (m : Memory) (r : Run) (begun : List ℕ) → Follows n done m r begun →
+    m .progress .used + resultRoom + totalRoom ≤ n → Counts (runFrom r begun []) →
+    done ++ toWrite (withTotal (atEnd m)) ≡ textOf (runFrom r begun [])
 unfolding runFrom linesFrom afterLines atEnd
 end-written n done m r begun f fits counts =
     ⊎-elim
@@ -222,7 +244,10 @@ WritesRest n pieces =
     done ++ written m pieces ≡ textOf (runFrom r begun (joined pieces))
 
 -- a piece before further ones, byte by byte
-piece-written : (n : ℕ) (pieces : List (List ℕ)) → WritesRest n pieces → (piece done : List ℕ) (m : Memory) (r : Run) (begun : List ℕ) → Follows n done m r begun → m .progress .used + resultRoom * length piece ≤ n → HasRoom n pieces → Counts (runFrom r begun (piece ++ joined pieces)) →
+piece-written :
+    (n : ℕ) (pieces : List (List ℕ)) → WritesRest n pieces → (piece done : List ℕ) (m : Memory) (r : Run) (begun : List ℕ) →
+    Follows n done m r begun → m .progress .used + resultRoom * length piece ≤ n → HasRoom n pieces →
+    Counts (runFrom r begun (piece ++ joined pieces)) →
     done ++ (toWrite (afterPiece m piece) ++ written (emptied (afterPiece m piece)) pieces) ≡ textOf (runFrom r begun (piece ++ joined pieces))
 piece-written n pieces further [] done m r begun f fits room counts =
     rw (afterPiece-none m)
@@ -252,7 +277,9 @@ pieces-written n (piece ∷ pieces) done m r begun f none room counts =
 -- The theorem
 
 -- the totals grow by at most one a line
-counts-lines : (r : Run) (lines : List (List ℕ)) → (afterLines r lines .passed ≤ r .passed + length lines) × (afterLines r lines .lines ≡ r .lines + length lines)
+counts-lines :
+    (r : Run) (lines : List (List ℕ)) →
+    (afterLines r lines .passed ≤ r .passed + length lines) × (afterLines r lines .lines ≡ r .lines + length lines)
 unfolding afterLines afterLine
 counts-lines r [] = (omega arith, omega arith)
 counts-lines r (line ∷ lines) =

@@ -26,7 +26,9 @@ unfolding countUpTo
 countUpTo-one zero v small = refl
 countUpTo-one (suc k) v small = if-< _ _ small
 
-pub countUpTo-more : (k v : ℕ) → 10 ≤ v → v < 10 ^ (k + 1) → (1 ≤ k) × (v / 10 < 10 ^ (k - 1 + 1)) × (countUpTo k v ≡ 1 + countUpTo (k - 1) (v / 10))
+pub countUpTo-more :
+    (k v : ℕ) → 10 ≤ v → v < 10 ^ (k + 1) →
+    (1 ≤ k) × (v / 10 < 10 ^ (k - 1 + 1)) × (countUpTo k v ≡ 1 + countUpTo (k - 1) (v / 10))
 unfolding countUpTo
 countUpTo-more zero v large fits = absurd (omega arith)
 countUpTo-more (suc k) v large fits =
@@ -86,7 +88,9 @@ unfolding decimalDigits
 decimalDigits-suc = map-digits-suc (λ d. 48 + d) 10
 
 -- the last digit, stored first, leaves the digits before it to be written
-pub overwrite-decimalDigits : (l : List ℕ) (at i v : ℕ) → 0 < i → at + i ≤ length l → overwrite (set l (at + (i - 1)) (48 + v % 10)) at (decimalDigits (i - 1) (v / 10)) ≡ overwrite l at (decimalDigits i v)
+pub overwrite-decimalDigits :
+    (l : List ℕ) (at i v : ℕ) → 0 < i → at + i ≤ length l →
+    overwrite (set l (at + (i - 1)) (48 + v % 10)) at (decimalDigits (i - 1) (v / 10)) ≡ overwrite l at (decimalDigits i v)
 unfolding decimalDigits
 overwrite-decimalDigits = overwrite-map-digits (λ d. 48 + d) 10
 
@@ -166,13 +170,18 @@ decimalText-no-leading-zero v some fits = first-countUpTo 19 v some fits
 -- Texts one after the other
 
 -- a text written where another ends makes the two one text
-pub written-then : (l m out : List ℕ) (at k r : ℕ) (xs ys : List ℕ) → k ≤ length l → (k ≡ at + length xs) × (m ≡ overwrite l at xs) → (r ≡ k + length ys) × (out ≡ overwrite m k ys) → (r ≡ at + length (xs ++ ys)) × (out ≡ overwrite l at (xs ++ ys))
+pub written-then :
+    (l m out : List ℕ) (at k r : ℕ) (xs ys : List ℕ) → k ≤ length l → (k ≡ at + length xs) × (m ≡ overwrite l at xs) →
+    (r ≡ k + length ys) × (out ≡ overwrite m k ys) →
+    (r ≡ at + length (xs ++ ys)) × (out ≡ overwrite l at (xs ++ ys))
 written-then l m out at k r xs ys fits first second = (
   simp length-append (omega (arith, first .0, second .0)),
   second .1 ∙ rw (first .1, first .0) (overwrite-join l at (length xs) xs ys refl (omega (arith, first .0))),
 )
 
-pub written-as : (l out : List ℕ) (at r : ℕ) (xs ys : List ℕ) → xs ≡ ys → (r ≡ at + length xs) × (out ≡ overwrite l at xs) → (r ≡ at + length ys) × (out ≡ overwrite l at ys)
+pub written-as :
+    (l out : List ℕ) (at r : ℕ) (xs ys : List ℕ) → xs ≡ ys → (r ≡ at + length xs) × (out ≡ overwrite l at xs) →
+    (r ≡ at + length ys) × (out ≡ overwrite l at ys)
 written-as l out at r xs ys e h = rw (← e) h
 
 pub append-4 : (p q r s : List ℕ) → ((p ++ q) ++ r) ++ s ≡ p ++ (q ++ (r ++ s))
@@ -182,7 +191,9 @@ pub append-5 : (p q r s t : List ℕ) → (((p ++ q) ++ r) ++ s) ++ t ≡ p ++ (
 append-5 p q r s t = simp append-assoc
 
 -- the room that a line takes
-pub length-resultText : (answer : ℕ) (shown : Shown) → length (resultText answer shown) ≡ length (decimalText answer) + length (shownText shown) + 2
+pub length-resultText :
+    (answer : ℕ) (shown : Shown) →
+    length (resultText answer shown) ≡ length (decimalText answer) + length (shownText shown) + 2
 unfolding resultText
 length-resultText answer shown = simp length-append (omega arith)
 

@@ -113,15 +113,21 @@ module _ (line : List ℕ) (v spaces i : ℕ) where
     unfolding readFrom numberFrom
     readFrom-ended fits space none = rw (here, field-ended _ _ spaces space none) (mod-eq-of-lt fits)
 
-    pub readFrom-passed : (w s : ℕ) → w ≡ v → s ≡ spaces - 1 → getD line i 0 ≡ 32 → (spaces ≡ 0 → ⊥) → readFrom line v spaces i ≡ readFrom line w s (i + 1)
+    pub readFrom-passed :
+        (w s : ℕ) → w ≡ v → s ≡ spaces - 1 → getD line i 0 ≡ 32 → (spaces ≡ 0 → ⊥) →
+        readFrom line v spaces i ≡ readFrom line w s (i + 1)
     unfolding readFrom
     readFrom-passed w s p q space some = rw (p, q, here, field-passed _ _ spaces space some)
 
-    pub readFrom-taken : (w s : ℕ) → w ≡ (v * 10 + decimalValue (getD line i 0)) % 2 ^ 64 → s ≡ spaces → (getD line i 0 ≡ 32 → ⊥) → spaces ≡ 0 → readFrom line v spaces i ≡ readFrom line w s (i + 1)
+    pub readFrom-taken :
+        (w s : ℕ) → w ≡ (v * 10 + decimalValue (getD line i 0)) % 2 ^ 64 → s ≡ spaces → (getD line i 0 ≡ 32 → ⊥) → spaces ≡ 0 →
+        readFrom line v spaces i ≡ readFrom line w s (i + 1)
     unfolding readFrom numberFrom
     readFrom-taken w s p q char none =
         rw (p, q, here, field-taken _ _ spaces char none) (sym (numberFrom-mod (v * 10 + decimalValue (getD line i 0)) (field (drop (i + 1) line) spaces)))
 
-    pub readFrom-skipped : (w s : ℕ) → w ≡ v → s ≡ spaces → (getD line i 0 ≡ 32 → ⊥) → (spaces ≡ 0 → ⊥) → readFrom line v spaces i ≡ readFrom line w s (i + 1)
+    pub readFrom-skipped :
+        (w s : ℕ) → w ≡ v → s ≡ spaces → (getD line i 0 ≡ 32 → ⊥) → (spaces ≡ 0 → ⊥) →
+        readFrom line v spaces i ≡ readFrom line w s (i + 1)
     unfolding readFrom
     readFrom-skipped w s p q char some = rw (p, q, here, field-skipped _ _ spaces char some)

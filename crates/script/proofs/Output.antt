@@ -28,7 +28,9 @@ withBytes-append held [] ys = refl
 withBytes-append held (x ∷ xs) ys = withBytes-append (withByte held x) xs ys
 
 -- bytes that there is room for are written from where the output ends
-pub withBytes-room : (l : List ℕ) (used : ℕ) (bytes : List ℕ) → length l ≡ 65536 → used + length bytes ≤ 65536 → withBytes (l, used) bytes ≡ (overwrite l used bytes, used + length bytes)
+pub withBytes-room :
+    (l : List ℕ) (used : ℕ) (bytes : List ℕ) → length l ≡ 65536 → used + length bytes ≤ 65536 →
+    withBytes (l, used) bytes ≡ (overwrite l used bytes, used + length bytes)
 unfolding withBytes
 withBytes-room l used [] size room = rw (overwrite-nothing l used, add-zero)
 withBytes-room l used (b ∷ bytes) size room =
@@ -39,7 +41,9 @@ withBytes-room l used (b ∷ bytes) size room =
     (withBytes-room (set l used b) (used + 1) bytes (simp length-set size) (omega arith) ∙ rw (whole, count))
 
 -- what is left of some bytes, before and after the next one is added
-pub withBytes-next : (held after : List ℕ × ℕ) (bytes : List ℕ) (i : ℕ) → i < length bytes → after ≡ withByte held (getD bytes i 0) → withBytes after (drop (i + 1) bytes) ≡ withBytes held (drop i bytes)
+pub withBytes-next :
+    (held after : List ℕ × ℕ) (bytes : List ℕ) (i : ℕ) → i < length bytes → after ≡ withByte held (getD bytes i 0) →
+    withBytes after (drop (i + 1) bytes) ≡ withBytes held (drop i bytes)
 unfolding withBytes
 withBytes-next held after bytes i inside e = rw (e, drop-cons bytes i 0 inside, add-one)
 
@@ -48,7 +52,10 @@ unfolding withBytes
 withBytes-all held bytes i past = rw (drop-of-length-le bytes past)
 
 -- the same of numbers, each after a space
-pub withBytes-spaced : (held space after : List ℕ × ℕ) (rest : List ℕ) (i : ℕ) → i < length rest → space ≡ withByte held 32 → after ≡ withBytes space (decimalText (getD rest i 0)) → withBytes after (spaced (drop (i + 1) rest)) ≡ withBytes held (spaced (drop i rest))
+pub withBytes-spaced :
+    (held space after : List ℕ × ℕ) (rest : List ℕ) (i : ℕ) → i < length rest → space ≡ withByte held 32 →
+    after ≡ withBytes space (decimalText (getD rest i 0)) →
+    withBytes after (spaced (drop (i + 1) rest)) ≡ withBytes held (spaced (drop i rest))
 unfolding withBytes spaced
 withBytes-spaced held space after rest i inside e f =
     rw (drop-cons rest i 0 inside, add-one, f, e) (sym (withBytes-append (withByte held 32) (decimalText (getD rest i 0)) (spaced (drop (suc i) rest))))

@@ -77,7 +77,9 @@ decimalField-same l m i k e = rw e
 -- All numbers
 
 -- what is read of the fields that were written: each of the numbers, 0 past the last
-pub decimalField-fieldsText : (first : ℕ) (rest : List ℕ) (i : ℕ) → ((k : ℕ) → getD (first ∷ rest) k 0 < 2 ^ 64) → decimalField (fieldsText first rest) i ≡ getD (first ∷ rest) i 0
+pub decimalField-fieldsText :
+    (first : ℕ) (rest : List ℕ) (i : ℕ) → ((k : ℕ) → getD (first ∷ rest) k 0 < 2 ^ 64) →
+    decimalField (fieldsText first rest) i ≡ getD (first ∷ rest) i 0
 unfolding fieldsText spaced
 decimalField-fieldsText first [] zero fit =
     rw (append-nil (decimalText first)) (decimalField-number (decimalText first) 0 first (fit 0) (field-alone (decimalText first) (decimalText-digit first)))

@@ -78,12 +78,17 @@ past-low E W X small from near =
     ∙ omega arith
 
 -- on the line, so on the ring
-pub range-wrap : (E R W S n : ℕ) → W ≤ largestWindow → R ≤ E + largestWindow → E ≤ S + W → S + n ≤ R → ringMinus (wrap S) (ringMinus (wrap E) W) + n ≤ ringMinus (wrap R) (ringMinus (wrap E) W)
+pub range-wrap :
+    (E R W S n : ℕ) → W ≤ largestWindow → R ≤ E + largestWindow → E ≤ S + W → S + n ≤ R →
+    ringMinus (wrap S) (ringMinus (wrap E) W) + n ≤ ringMinus (wrap R) (ringMinus (wrap E) W)
 range-wrap E R W S n wide span low high =
     omega (arith, past-low E W S (omega arith) low (omega arith), past-low E W R (omega arith) (omega arith) (omega arith))
 
 -- on the ring, so on the line, for the place S near E
-pub range-unwrap : (E R W S n : ℕ) → W ≤ largestWindow → E ≤ R → R ≤ E + largestWindow → E ≤ S + 2 ^ 31 → S < E + 2 ^ 31 → ringMinus (wrap S) (ringMinus (wrap E) W) + n ≤ ringMinus (wrap R) (ringMinus (wrap E) W) → (E ≤ S + W) × (S + n ≤ R)
+pub range-unwrap :
+    (E R W S n : ℕ) → W ≤ largestWindow → E ≤ R → R ≤ E + largestWindow → E ≤ S + 2 ^ 31 → S < E + 2 ^ 31 →
+    ringMinus (wrap S) (ringMinus (wrap E) W) + n ≤ ringMinus (wrap R) (ringMinus (wrap E) W) →
+    (E ≤ S + W) × (S + n ≤ R)
 range-unwrap E R W S n wide ordered span near near' met = from-low (ltb (S + W) E) refl
   where
     edge : ringMinus (wrap R) (ringMinus (wrap E) W) ≡ R + W - E
@@ -152,7 +157,9 @@ pub nearest-wrap : (E S : ℕ) → 2 ^ 31 ≤ E → E ≤ S + 2 ^ 31 → S < E +
 nearest-wrap E S high near near' = sym (nearest-is E (wrap S) S high (wrap-small S) .1 (refl, near, near'))
 
 -- counted from half a turn below base, the number that, added to base, wraps to x
-pub nearest-counted : (base x up : ℕ) → up < 2 ^ 32 → base < 2 ^ 32 → (up + base) % 2 ^ 32 ≡ x → nearest (base + 2 ^ 32) x ≡ base + 2 ^ 31 + (up + 2 ^ 31) % 2 ^ 32
+pub nearest-counted :
+    (base x up : ℕ) → up < 2 ^ 32 → base < 2 ^ 32 → (up + base) % 2 ^ 32 ≡ x →
+    nearest (base + 2 ^ 32) x ≡ base + 2 ^ 31 + (up + 2 ^ 31) % 2 ^ 32
 unfolding wrap
 nearest-counted base x up small small' sum =
     sym (nearest-is (base + 2 ^ 32) x _ (omega arith) (omega arith) .1 (omega arith, omega arith, omega arith))
@@ -160,28 +167,37 @@ nearest-counted base x up small small' sum =
 -- What a pass writes, told from the counts that the ranges compare
 
 -- the end rises exactly where the segment ends more than W past low
-pub end-rises : (E W S n : ℕ) → W ≤ 2 ^ 32 → E ≤ S + W → S + W < E + 2 ^ 32 → (W < ringMinus (wrap S) (ringMinus (wrap E) W) + n) ↔ (E < S + n)
+-- (nothing uses it yet: it is for a cheaper `further`)
+pub end-rises :
+    (E W S n : ℕ) → W ≤ 2 ^ 32 → E ≤ S + W → S + W < E + 2 ^ 32 →
+    (W < ringMinus (wrap S) (ringMinus (wrap E) W) + n) ↔ (E < S + n)
 end-rises E W S n small low near =
     ((λ t. omega (arith, past-low E W S small low near, t)), (λ t. omega (arith, past-low E W S small low near, t)))
 
 -- the edge rises exactly where the granted count exceeds edge − end and end − acknowledgement together
-pub edge-rises : (E R A v : ℕ) → E ≤ R → R < E + 2 ^ 32 → A ≤ E → E < A + 2 ^ 32 → (ringMinus (wrap R) (wrap E) + ringMinus (wrap E) (wrap A) < v) ↔ (R < A + v)
+-- (nothing uses it yet: it is for a cheaper `further`)
+pub edge-rises :
+    (E R A v : ℕ) → E ≤ R → R < E + 2 ^ 32 → A ≤ E → E < A + 2 ^ 32 →
+    (ringMinus (wrap R) (wrap E) + ringMinus (wrap E) (wrap A) < v) ↔ (R < A + v)
 edge-rises E R A v ordered span high near = (
   (λ t. omega (arith, wrap-minus R E ordered span, wrap-minus E A high near, t)),
   (λ t. omega (arith, wrap-minus R E ordered span, wrap-minus E A high near, t)),
 )
 
--- the sequence number before an opener's end is its SYN's
-pub syn-before-end : (X : ℕ) → wrap X ≡ ringMinus (wrap (X + 1)) 1
-unfolding wrap ringMinus
-syn-before-end X = omega arith
-
 -- A segment met by the bounds before and after another pass stands at one place
 
-pub same-start : (E R W E' R' W' S S' n : ℕ) → W ≤ largestWindow → W' ≤ largestWindow → R ≤ E + largestWindow → R' ≤ E' + largestWindow → E ≤ E' → E' ≤ R → E ≤ S + W → S + n ≤ R → E' ≤ S' + W' → S' + n ≤ R' → wrap S ≡ wrap S' → S ≡ S'
+-- its start (nothing uses it yet: it is for the log engine)
+pub same-start :
+    (E R W E' R' W' S S' n : ℕ) → W ≤ largestWindow → W' ≤ largestWindow → R ≤ E + largestWindow → R' ≤ E' + largestWindow → E ≤ E' →
+    E' ≤ R → E ≤ S + W → S + n ≤ R → E' ≤ S' + W' → S' + n ≤ R' → wrap S ≡ wrap S' →
+    S ≡ S'
 same-start E R W E' R' W' S S' n a b c d e f g h i j same = wrap-injective S S' same (omega arith) (omega arith)
 
-pub same-ack : (E E' A A' K : ℕ) → K ≤ largestRange → E ≤ E' → E' ≤ E + largestWindow → A ≤ E → E ≤ A + K → A' ≤ E' → E' ≤ A' + K → wrap A ≡ wrap A' → A ≡ A'
+-- what it acknowledges (nothing uses it yet: it is for the log engine)
+pub same-ack :
+    (E E' A A' K : ℕ) → K ≤ largestRange → E ≤ E' → E' ≤ E + largestWindow → A ≤ E → E ≤ A + K → A' ≤ E' → E' ≤ A' + K →
+    wrap A ≡ wrap A' →
+    A ≡ A'
 same-ack E E' A A' K a b c d e f g same = wrap-injective A A' same (omega arith) (omega arith)
 
 -- places near E are told apart by their sequence numbers

@@ -13,7 +13,9 @@ unfolding wrap
 turned B Z near near' =
     sym (nearest-is (wrap B + 2 ^ 32) (wrap Z) _ (omega arith) (wrap-small Z) .1 (wrap-turns Z (B / 2 ^ 32) (omega arith), omega arith, omega arith))
 
-pub further-wrap : (B X Y : ℕ) → B ≤ X + 2 ^ 31 → X < B + 2 ^ 31 → B ≤ Y + 2 ^ 31 → Y < B + 2 ^ 31 → further (seqAt B) (seqAt X) (seqAt Y) ≡ seqAt (max X Y)
+pub further-wrap :
+    (B X Y : ℕ) → B ≤ X + 2 ^ 31 → X < B + 2 ^ 31 → B ≤ Y + 2 ^ 31 → Y < B + 2 ^ 31 →
+    further (seqAt B) (seqAt X) (seqAt Y) ≡ seqAt (max X Y)
 unfolding further
 further-wrap B X Y a b c d =
     let turns = B / 2 ^ 32 in
@@ -22,7 +24,10 @@ further-wrap B X Y a b c d =
     λ i. record { 0 = (ap wrap e ∙ wrap-turns (max X Y) turns (omega arith)) i }
 
 -- one of the two that stands where the larger does
-pub further-is : (base a b x : SeqNum) → x .0 < 2 ^ 32 → max (nearest (base .0 + 2 ^ 32) (a .0)) (nearest (base .0 + 2 ^ 32) (b .0)) ≡ nearest (base .0 + 2 ^ 32) (x .0) → further base a b ≡ x
+pub further-is :
+    (base a b x : SeqNum) → x .0 < 2 ^ 32 →
+    max (nearest (base .0 + 2 ^ 32) (a .0)) (nearest (base .0 + 2 ^ 32) (b .0)) ≡ nearest (base .0 + 2 ^ 32) (x .0) →
+    further base a b ≡ x
 unfolding further
 further-is base a b x fits top =
     λ i. record { 0 = (ap wrap top ∙ wrap-nearest (base .0 + 2 ^ 32) (x .0) (omega arith) fits) i }

@@ -32,9 +32,11 @@ pub record SoundFacts (t : List ℕ) (n : ℕ) : Type 0 where
 
 pub place-facts : (t : List ℕ) (p : ℕ) → soundAt t p ≡ true → SoundPlace (headerClock t) t (placeAt p)
 unfolding soundAt freeAt
-place-facts t p sound = ⊎-elim (λ free. inl (zerosAt-true t (placeAt p) 64 free)) (λ more. inr (facts more)) (||-true _ _ sound)
+place-facts t p sound = ⊎-elim (λ free. inl (zerosAt-true t (placeAt p) entrySize free)) (λ more. inr (facts more)) (||-true _ _ sound)
   where
-    facts : (getD t (placeAt p + 3) 0 =ᵇ 0) && (zerosAt t (placeAt p + 48) 16 && soundConnection (headerClock t) (entryAt t (placeAt p) .connection)) ≡ true → SoundEntry (headerClock t) t (placeAt p)
+    facts :
+        (getD t (placeAt p + 3) 0 =ᵇ 0) && (zerosAt t (placeAt p + 48) 16 && soundConnection (headerClock t) (entryAt t (placeAt p) .connection)) ≡ true →
+        SoundEntry (headerClock t) t (placeAt p)
     facts e =
         let a = &&-true (getD t (placeAt p + 3) 0 =ᵇ 0) _ e in
         let b = &&-true (zerosAt t (placeAt p + 48) 16) _ (a .1) in
@@ -45,11 +47,11 @@ place-facts t p sound = ⊎-elim (λ free. inl (zerosAt-true t (placeAt p) 64 fr
 
 facts-place : (t : List ℕ) (p : ℕ) → SoundPlace (headerClock t) t (placeAt p) → soundAt t p ≡ true
 unfolding soundAt freeAt
-facts-place t p (inl free) = rw (true-zerosAt t (placeAt p) 64 free)
+facts-place t p (inl free) = rw (true-zerosAt t (placeAt p) entrySize free)
 facts-place t p (inr f) =
     let z = f .zero-bytes in
     rw (eq-eqb (getD t (placeAt p + 3) 0) 0 (z .after-fins), true-zerosAt t (placeAt p + 48) 16 (z .last), f .connection)
-    (or-true (zerosAt t (placeAt p) 64))
+    (or-true (zerosAt t (placeAt p) entrySize))
 
 module _ (t : List ℕ) (n : ℕ) where
   pub table-facts : soundTable t n ≡ true → SoundFacts t n

@@ -24,7 +24,9 @@ module _ (e : Entry) (x y : Endpoint) where
   unfolding between
   not-between-by-first-port h = simp (ne-eqb (x .port) (e .opener .port) h, and-false)
 
-  pub between-by-second-port : x .address ≡ e .opener .address → y .address ≡ e .answerer .address → x .port ≡ e .opener .port → between e x y ≡ (y .port =ᵇ e .answerer .port)
+  pub between-by-second-port :
+      x .address ≡ e .opener .address → y .address ≡ e .answerer .address → x .port ≡ e .opener .port →
+      between e x y ≡ (y .port =ᵇ e .answerer .port)
   unfolding between
   between-by-second-port a b c =
       rw (eq-eqb (x .address) (e .opener .address) a, eq-eqb (y .address) (e .answerer .address) b, eq-eqb (x .port) (e .opener .port) c)
@@ -68,6 +70,8 @@ module _ (t : List ℕ) (clock side : ℕ) (from to : Endpoint) (p : ℕ) where
   unfolding liveMatchAt vacantAt
   not-live-by-expired h = rw (le-ltb _ _ (leb-true _ _ h))
 
-  pub live-by-match : vacantAt t clock p ≡ false → liveMatchAt t clock side from to p ≡ (fromOpener (entryAt t (placeAt p)) side from to || fromAnswerer (entryAt t (placeAt p)) side from to)
+  pub live-by-match :
+      vacantAt t clock p ≡ false →
+      liveMatchAt t clock side from to p ≡ (fromOpener (entryAt t (placeAt p)) side from to || fromAnswerer (entryAt t (placeAt p)) side from to)
   unfolding liveMatchAt vacantAt
   live-by-match h = rw (lt-ltb _ _ (leb-false _ _ h))

@@ -3,13 +3,13 @@ use Prim.Native.Nat.{ℕ, _+_, _*_, _/_, _%_, _^_, _≤_, _<_}
 use mathlib.Core.Path.{_≡_, refl, ap, sym, _∙_}
 use mathlib.Core.List.{List}
 use mathlib.Core.Bool.{Bool, true, false, _&&_, and-true, and-false, and-assoc, or-false}
-use mathlib.Core.Logic.{_⊎_, inl, inr, ⊎-elim}
+use mathlib.Core.Logic.{_⊎_, ⊎-elim}
 use native.Mathlib.Omega.{arith}
 use lib.ListN.{getD}
 use borrow.Author.Tests.{lt-ltb, le-ltb, ltb-true, leb-true, eqb-true, le-leb, lt-leb, eq-eqb}
 use Rattle.choice.specs.Choice.{_<ᵇ_, _≤ᵇ_, _=ᵇ_}
-use Rattle.choice.proofs.Choice.{if-=, if-=-not, if-≤, if-≤-not}
-use Rattle.choice.proofs.Tests.{lt-or-ge, &&-true}
+use Rattle.choice.proofs.Choice.{if-=, if-=-not}
+use Rattle.choice.proofs.Tests.{not-true-false, true-&&, &&-true}
 use Rattle.octets.specs.BigEndian.{bigEndian}
 use Rattle.octets.specs.LittleEndian.{littleEndian, FourOctets}
 use Rattle.octets.proofs.LittleEndian.{octets-of-word}
@@ -18,94 +18,62 @@ use Rattle.connection.specs.Ends.{count, seqNum}
 use Rattle.connection.specs.Sound.{soundFins, soundEnd, soundUnanswered, soundConnection}
 use Rattle.connection.specs.Stages.{longestLife}
 use Rattle.connection.specs.declared.End.{End}
+use Rattle.connection.proofs.Sound.{Fins, soundFins-to-3, soundFins-in-4, soundFins-from-5, soundFins-true}
 use Rattle.entry.specs.Layout.{placeAt, endAt, entryAt, connectionAt}
 use Rattle.table.specs.Table.{zerosAt, freeAt, headerClock, soundAt, soundHeader, soundTable, allFrom}
 use Rattle.table.specs.Words.{soundMarks, soundMarksAt, soundWord, soundNumbers, soundInUse, soundEntry}
-use Rattle.table.proofs.Zeros.{both, zeros-part, zeros-4-number}
+use Rattle.table.proofs.Zeros.{zeros-part, zeros-4-number}
 
 -- Stage, side, FIN bits and zero
 
-not-true-false : (t : Bool) → (t ≡ true → ⊥) → t ≡ false
-not-true-false true h = absurd (h refl)
-not-true-false false h = refl
-
-fins-to-3 : (stage fins : ℕ) → stage ≤ 3 → soundFins stage fins ≡ (fins =ᵇ 0)
-unfolding soundFins
-fins-to-3 stage fins h = if-≤ _ _ h
-
-fins-in-4 : (stage fins : ℕ) → stage ≡ 4 → soundFins stage fins ≡ (1 ≤ᵇ fins) && (fins ≤ᵇ 2)
-unfolding soundFins
-fins-in-4 stage fins h = let above : 3 < stage = omega arith in if-≤-not _ _ above ∙ if-= _ _ h
-
-fins-from-5 : (stage fins : ℕ) → 5 ≤ stage → soundFins stage fins ≡ (fins =ᵇ 3)
-unfolding soundFins
-fins-from-5 stage fins h =
-    let above : 3 < stage = omega arith in
-    let other : stage ≡ 4 → ⊥ = λ e. omega (arith, e) in
-    if-≤-not _ _ above ∙ if-=-not _ _ other
-
-abbrev Fins : ℕ → ℕ → Type 0
-Fins stage fins = ((stage ≤ 3) × (fins ≡ 0)) ⊎ (((stage ≡ 4) × (1 ≤ fins) × (fins ≤ 2)) ⊎ ((5 ≤ stage) × (fins ≡ 3)))
-
-fins-known : (stage fins : ℕ) → soundFins stage fins ≡ true → Fins stage fins
-fins-known stage fins e =
-    ⊎-elim
-    (λ (h : stage < 4). let p : stage ≤ 3 = omega arith in inl (p, eqb-true _ _ (sym (fins-to-3 stage fins p) ∙ e)))
-    (λ (h : 4 ≤ stage).
-    ⊎-elim
-    (λ (g : stage < 5).
-    let p : stage ≡ 4 = omega arith in
-    let q = &&-true (1 ≤ᵇ fins) (fins ≤ᵇ 2) (sym (fins-in-4 stage fins p) ∙ e) in
-    inr (inl (p, leb-true 1 fins (q .0), leb-true fins 2 (q .1))))
-    (λ (g : 5 ≤ stage). inr (inr (g, eqb-true _ _ (sym (fins-from-5 stage fins g) ∙ e))))
-    (lt-or-ge stage 5))
-    (lt-or-ge stage 4)
-
-pub fins-most : (stage fins : ℕ) → soundFins stage fins ≡ true → fins ≤ 3
-fins-most stage fins e =
-    ⊎-elim (λ (x : (stage ≤ 3) × (fins ≡ 0)). omega (arith, x .1))
-    (λ (y : ((stage ≡ 4) × (1 ≤ fins) × (fins ≤ 2)) ⊎ ((5 ≤ stage) × (fins ≡ 3))).
-    ⊎-elim (λ (x : (stage ≡ 4) × (1 ≤ fins) × (fins ≤ 2)). omega (arith, x .2)) (λ (x : (5 ≤ stage) × (fins ≡ 3)). omega (arith, x .1)) y)
-    (fins-known stage fins e)
-
-marks-known : (stage side fins blank : ℕ) → soundMarks stage side fins blank ≡ true → (1 ≤ stage) × (stage ≤ 5) × (side ≤ 1) × (blank ≡ 0) × Fins stage fins
+marks-known :
+    (stage side fins blank : ℕ) → soundMarks stage side fins blank ≡ true →
+    (1 ≤ stage) × (stage ≤ 5) × (side ≤ 1) × (blank ≡ 0) × Fins stage fins
 unfolding soundMarks
 marks-known stage side fins blank e =
     let a = &&-true (1 ≤ᵇ stage) _ e in
     let b = &&-true (stage ≤ᵇ 5) _ (a .1) in
     let c = &&-true (side ≤ᵇ 1) _ (b .1) in
     let d = &&-true (soundFins stage fins) (blank =ᵇ 0) (c .1) in
-    (leb-true 1 stage (a .0), leb-true stage 5 (b .0), leb-true side 1 (c .0), eqb-true blank 0 (d .1), fins-known stage fins (d .0))
+    (leb-true 1 stage (a .0), leb-true stage 5 (b .0), leb-true side 1 (c .0), eqb-true blank 0 (d .1), soundFins-true stage fins (d .0))
 
-marks-by : (stage side fins blank : ℕ) → 1 ≤ stage → stage ≤ 5 → side ≤ 1 → blank ≡ 0 → soundFins stage fins ≡ true → soundMarks stage side fins blank ≡ true
+marks-by :
+    (stage side fins blank : ℕ) → 1 ≤ stage → stage ≤ 5 → side ≤ 1 → blank ≡ 0 → soundFins stage fins ≡ true →
+    soundMarks stage side fins blank ≡ true
 unfolding soundMarks
 marks-by stage side fins blank a b c d e = simp (le-leb 1 stage a, le-leb stage 5 b, le-leb side 1 c, eq-eqb blank 0 d, e)
 
 marks-to-3 : (stage side fins blank : ℕ) → 1 ≤ stage → stage ≤ 3 → side ≤ 1 → blank ≡ 0 → fins ≡ 0 → soundMarks stage side fins blank ≡ true
 marks-to-3 stage side fins blank a b c d e =
-    marks-by stage side fins blank a (omega arith) c d (fins-to-3 stage fins b ∙ eq-eqb fins 0 e)
+    marks-by stage side fins blank a (omega arith) c d (soundFins-to-3 stage fins b ∙ eq-eqb fins 0 e)
 
-pub marks-in-4 : (stage side fins blank : ℕ) → stage ≡ 4 → side ≤ 1 → blank ≡ 0 → 1 ≤ fins → fins ≤ 2 → soundMarks stage side fins blank ≡ true
+pub marks-in-4 :
+    (stage side fins blank : ℕ) → stage ≡ 4 → side ≤ 1 → blank ≡ 0 → 1 ≤ fins → fins ≤ 2 →
+    soundMarks stage side fins blank ≡ true
 marks-in-4 stage side fins blank a c d e f =
-    marks-by stage side fins blank (omega arith) (omega arith) c d (fins-in-4 stage fins a ∙ both _ _ (le-leb 1 fins e) (le-leb fins 2 f))
+    marks-by stage side fins blank (omega arith) (omega arith) c d (soundFins-in-4 stage fins a ∙ true-&& _ _ (le-leb 1 fins e) (le-leb fins 2 f))
 
 pub marks-in-5 : (stage side fins blank : ℕ) → stage ≡ 5 → side ≤ 1 → blank ≡ 0 → fins ≡ 3 → soundMarks stage side fins blank ≡ true
 marks-in-5 stage side fins blank a c d e =
-    marks-by stage side fins blank (omega arith) (omega arith) c d (fins-from-5 stage fins (omega arith) ∙ eq-eqb fins 3 e)
+    marks-by stage side fins blank (omega arith) (omega arith) c d (soundFins-from-5 stage fins (omega arith) ∙ eq-eqb fins 3 e)
 
 marks-of-none : (stage side fins blank : ℕ) → stage ≡ 0 → soundMarks stage side fins blank ≡ false
 unfolding soundMarks
 marks-of-none stage side fins blank e = simp (lt-leb 1 stage (omega arith))
 
 -- the word without the side's bit
-pub word-without-side : (w : ℕ) → w % 256 + w / 512 * 512 ≡ w % 256 + w / 256 % 256 / 2 * 512 + (w / 256 / 256 % 256 + w / 256 / 256 / 256 * 256) * 65536
+pub word-without-side :
+    (w : ℕ) →
+    w % 256 + w / 512 * 512 ≡ w % 256 + w / 256 % 256 / 2 * 512 + (w / 256 / 256 % 256 + w / 256 / 256 / 256 * 256) * 65536
 word-without-side w = omega arith
 
 module _ (stage side fins blank k : ℕ) (is : k ≡ stage + side / 2 * 512 + (fins + blank * 256) * 65536) where
   pub marks-of-1-to-3 : stage < 256 → side < 256 → fins < 256 → 1 ≤ k → k ≤ 3 → soundMarks stage side fins blank ≡ true
   marks-of-1-to-3 a b c h g = marks-to-3 stage side fins blank (omega arith) (omega arith) (omega arith) (omega arith) (omega arith)
 
-  pub marks-of-no-other : (1 ≤ k → k ≤ 3 → ⊥) → (k ≡ 65540 → ⊥) → (k ≡ 131076 → ⊥) → (k ≡ 196613 → ⊥) → soundMarks stage side fins blank ≡ false
+  pub marks-of-no-other :
+      (1 ≤ k → k ≤ 3 → ⊥) → (k ≡ 65540 → ⊥) → (k ≡ 131076 → ⊥) → (k ≡ 196613 → ⊥) →
+      soundMarks stage side fins blank ≡ false
   marks-of-no-other h a b c =
       not-true-false _ (λ e.
       let o = marks-known stage side fins blank e in
@@ -116,12 +84,16 @@ module _ (stage side fins blank k : ℕ) (is : k ≡ stage + side / 2 * 512 + (f
 -- The entry
 
 -- the order in which the definition asks, and the scan's
-regroup : (z zs s s' d f l o a u : Bool) → z && (zs && (s && (s' && (d && (f && (l && (o && (a && u)))))))) ≡ (s && (s' && (d && (f && z)))) && ((l && (o && (a && zs))) && u)
+regroup :
+    (z zs s s' d f l o a u : Bool) →
+    z && (zs && (s && (s' && (d && (f && (l && (o && (a && u)))))))) ≡ (s && (s' && (d && (f && z)))) && ((l && (o && (a && zs))) && u)
 regroup false zs s s' d f l o a u = simp and-false
 regroup true false s s' d f l o a u = simp and-false
 regroup true true s s' d f l o a u = simp (and-true, and-assoc)
 
-in-use-by-parts : (t : List ℕ) (clock at : ℕ) → soundInUse t clock at ≡ (soundMarksAt t at && (soundNumbers t clock at (endAt t (at + 24)) (endAt t (at + 36)) && soundUnanswered (getD t at 0) (endAt t (at + 24)) (endAt t (at + 36))))
+in-use-by-parts :
+    (t : List ℕ) (clock at : ℕ) →
+    soundInUse t clock at ≡ (soundMarksAt t at && (soundNumbers t clock at (endAt t (at + 24)) (endAt t (at + 36)) && soundUnanswered (getD t at 0) (endAt t (at + 24)) (endAt t (at + 36))))
 unfolding soundInUse soundConnection entryAt connectionAt soundMarks soundNumbers
 in-use-by-parts t clock at =
     regroup (getD t (at + 3) 0 =ᵇ 0) (zerosAt t (at + 48) 16) (1 ≤ᵇ getD t at 0) (getD t at 0 ≤ᵇ 5) (getD t (at + 1) 0 ≤ᵇ 1)
@@ -142,7 +114,9 @@ module _ (t : List ℕ) (clock at : ℕ) where
       rw out (or-false (zerosAt t at 64))
 
   -- any other is in use
-  pub entry-of-word : (littleEndian t at ≡ 0 → ⊥) → soundEntry t clock at ≡ (soundMarksAt t at && (soundNumbers t clock at (endAt t (at + 24)) (endAt t (at + 36)) && soundUnanswered (getD t at 0) (endAt t (at + 24)) (endAt t (at + 36))))
+  pub entry-of-word :
+      (littleEndian t at ≡ 0 → ⊥) →
+      soundEntry t clock at ≡ (soundMarksAt t at && (soundNumbers t clock at (endAt t (at + 24)) (endAt t (at + 36)) && soundUnanswered (getD t at 0) (endAt t (at + 24)) (endAt t (at + 36))))
   unfolding soundEntry
   entry-of-word h =
       rw (not-true-false (zerosAt t at 64) (λ e. h (zeros-4-number t at (zeros-part t 4 60 at e .0)))) (in-use-by-parts t clock at)
@@ -177,13 +151,6 @@ pub end-by-ranges : (e : End) → soundEnd e ≡ (oneTo (e .win) (count 65535) &
 unfolding soundEnd
 end-by-ranges e = sym (and-assoc (1 ≤ᵇ e .win .0) (e .win .0 ≤ᵇ 65535) (seqMinus (e .edge) (e .end) .0 ≤ᵇ 65535))
 
-pub end-known : (e : End) → soundEnd e ≡ true → (1 ≤ e .win .0) × (e .win .0 ≤ 65535) × (seqMinus (e .edge) (e .end) .0 ≤ 65535)
-unfolding soundEnd
-end-known e h =
-    let p = &&-true (1 ≤ᵇ e .win .0) _ h in
-    let q = &&-true (e .win .0 ≤ᵇ 65535) _ (p .1) in
-    (leb-true 1 _ (p .0), leb-true _ 65535 (q .0), leb-true _ 65535 (q .1))
-
 module _ (t : List ℕ) (clock at : ℕ) (opener answerer : End) where
   pub numbers-not-by-deadline : clock + longestLife < bigEndian 8 t (at + 16) → soundNumbers t clock at opener answerer ≡ false
   unfolding soundNumbers
@@ -197,7 +164,9 @@ module _ (t : List ℕ) (clock at : ℕ) (opener answerer : End) where
   unfolding soundNumbers
   numbers-not-by-answerer e = simp (e, and-false)
 
-  pub numbers-by-zeros : bigEndian 8 t (at + 16) ≤ clock + longestLife → soundEnd opener ≡ true → soundEnd answerer ≡ true → soundNumbers t clock at opener answerer ≡ zerosAt t (at + 48) 16
+  pub numbers-by-zeros :
+      bigEndian 8 t (at + 16) ≤ clock + longestLife → soundEnd opener ≡ true → soundEnd answerer ≡ true →
+      soundNumbers t clock at opener answerer ≡ zerosAt t (at + 48) 16
   unfolding soundNumbers
   numbers-by-zeros due o a = rw (le-leb _ _ due, o, a)
 
@@ -217,7 +186,9 @@ module _ (o a : End) where
   pub unanswered-not-by-other-edge : sameSeq (a .edge) (seqNum 0) ≡ false → soundUnanswered 1 o a ≡ false
   unanswered-not-by-other-edge h = unanswered-1 ∙ simp (h, and-false)
 
-  pub unanswered-by-other-win : sameSeq (o .edge) (o .end) ≡ true → sameSeq (a .end) (seqNum 0) ≡ true → sameSeq (a .edge) (seqNum 0) ≡ true → soundUnanswered 1 o a ≡ sameCount (a .win) (count 1)
+  pub unanswered-by-other-win :
+      sameSeq (o .edge) (o .end) ≡ true → sameSeq (a .end) (seqNum 0) ≡ true → sameSeq (a .edge) (seqNum 0) ≡ true →
+      soundUnanswered 1 o a ≡ sameCount (a .win) (count 1)
   unanswered-by-other-win p q r = unanswered-1 ∙ rw (p, q, r)
 
 -- The table

@@ -1,25 +1,16 @@
 -- Laws of runs of zeros: they join, and a run is the number that its octets are being 0.
 use Prim.Native.Nat.{ℕ, zero, suc, _+_, _-_, _*_, _<_}
-use mathlib.Core.Path.{_≡_, refl, sym, _∙_}
+use mathlib.Core.Path.{_≡_, sym, _∙_}
 use mathlib.Core.List.{List}
-use mathlib.Core.Bool.{Bool, true, false, _&&_}
+use mathlib.Core.Bool.{true}
 use native.Mathlib.Omega.{arith}
 use native.Mathlib.Nat.{add-zero}
 use lib.ListN.{getD}
-use borrow.Author.Tests.{eq-eqb, ne-eqb, eqb-true}
-use Rattle.choice.specs.Choice.{_=ᵇ_}
-use Rattle.choice.proofs.Tests.{&&-true, false-true}
+use borrow.Author.Tests.{eq-eqb, eqb-true}
+use Rattle.choice.proofs.Tests.{true-&&, &&-true}
 use Rattle.octets.specs.LittleEndian.{littleEndian}
 use Rattle.table.specs.Table.{zerosAt}
 use Rattle.table.proofs.Places.{each-of-all, all-by-each, all-add}
-
-pub both : (a b : Bool) → a ≡ true → b ≡ true → a && b ≡ true
-both a b p q = rw (p, q)
-
--- a number that is 0 exactly where a test holds
-pub zero-tests : (r : ℕ) (t : Bool) → (r ≡ 0 → t ≡ true) × (t ≡ true → r ≡ 0) → (r =ᵇ 0) ≡ t
-zero-tests r true h = eq-eqb r 0 (h .1 refl)
-zero-tests r false h = ne-eqb r 0 (λ e. false-true (h .0 e))
 
 -- the n octets from at on are zeros, one by one
 abbrev pub Zeros : List ℕ → ℕ → ℕ → Type 0
@@ -40,7 +31,7 @@ true-zerosAt t at n all =
 
 pub zeros-join : (t : List ℕ) (m n at : ℕ) → zerosAt t at m ≡ true → zerosAt t (at + m) n ≡ true → zerosAt t at (m + n) ≡ true
 unfolding zerosAt
-zeros-join t m n at p q = all-add _ m n at ∙ both _ _ p q
+zeros-join t m n at p q = all-add _ m n at ∙ true-&& _ _ p q
 
 pub zeros-part : (t : List ℕ) (m n at : ℕ) → zerosAt t at (m + n) ≡ true → (zerosAt t at m ≡ true) × (zerosAt t (at + m) n ≡ true)
 unfolding zerosAt

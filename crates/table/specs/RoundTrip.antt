@@ -1,4 +1,4 @@
--- Every sound entry re-encodes to its bytes.
+-- A sound entry and its bytes (document 01, "The table").
 use Prim.Native.Nat.{ℕ, _+_, _≤_}
 use mathlib.Core.Path.{_≡_}
 use mathlib.Core.Bool.{true}
@@ -8,7 +8,7 @@ use Rattle.octets.specs.Octets.{Octets}
 use Rattle.entry.specs.Layout.{entrySize, placeAt, entryAt, entryBytes}
 use Rattle.table.specs.Table.{soundAt}
 
--- the entry at a sound place, free or in use, is stored as the bytes that it was loaded from
+-- every sound entry, free or in use, re-encodes to its bytes
 abbrev pub SoundReEncodes : Type 0
 SoundReEncodes =
     (t : List ℕ) (p : ℕ) → Octets t → placeAt p + entrySize ≤ length t → soundAt t p ≡ true →

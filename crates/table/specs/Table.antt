@@ -6,7 +6,7 @@ use lib.ListN.{getD}
 use Rattle.choice.specs.Choice.{if_then_else_, _<ᵇ_, _≤ᵇ_, _=ᵇ_}
 use Rattle.octets.specs.BigEndian.{bigEndian}
 use Rattle.connection.specs.Sound.{soundConnection}
-use Rattle.entry.specs.Layout.{placeAt, entryAt}
+use Rattle.entry.specs.Layout.{entrySize, placeAt, entryAt}
 use Rattle.entry.specs.declared.Endpoint.{Endpoint}
 use Rattle.entry.specs.declared.Entry.{Entry}
 use Rattle.table.specs.declared.Found.{Found}
@@ -38,7 +38,7 @@ soundHeader t = (headerClock t <ᵇ 2 ^ 48) && zerosAt t 8 56
 
 -- a free entry is 64 zeros
 unfoldable pub freeAt : List ℕ → ℕ → Bool
-freeAt t p = zerosAt t (placeAt p) 64
+freeAt t p = zerosAt t (placeAt p) entrySize
 
 -- either free, or zero bytes zero and its connection sound by the header clock
 unfoldable pub soundAt : List ℕ → ℕ → Bool

@@ -8,7 +8,7 @@ use Rattle.octets.specs.BigEndian.{bigEndian}
 use Rattle.connection.specs.Sound.{soundFins, soundEnd, soundConnection}
 use Rattle.connection.specs.Stages.{longestLife}
 use Rattle.connection.specs.declared.End.{End}
-use Rattle.entry.specs.Layout.{entryAt}
+use Rattle.entry.specs.Layout.{entrySize, entryAt}
 use Rattle.table.specs.Table.{zerosAt}
 
 -- an entry's first four octets: stage 1 to 5, side 0 or 1, FIN bits by stage, zero
@@ -33,4 +33,4 @@ soundInUse t clock at =
     (getD t (at + 3) 0 =ᵇ 0) && (zerosAt t (at + 48) 16 && soundConnection clock (entryAt t at .connection))
 
 unfoldable pub soundEntry : List ℕ → ℕ → ℕ → Bool
-soundEntry t clock at = zerosAt t at 64 || soundInUse t clock at
+soundEntry t clock at = zerosAt t at entrySize || soundInUse t clock at

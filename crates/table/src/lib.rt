@@ -7,7 +7,7 @@ ghost use lib.ListN.{length};
 ghost use Rattle.octets.specs.BigEndian.{octetsOf};
 ghost use Rattle.octets.specs.Overwrite.{overwrite};
 ghost use Rattle.connection.specs.Sound.{soundEnd, soundUnanswered};
-ghost use Rattle.entry.specs.Layout.{placeAt, entryAt};
+ghost use Rattle.entry.specs.Layout.{headerSize, entrySize, placeAt, entryAt};
 ghost use Rattle.table.specs.Table.{headerClock, zerosAt, soundHeader, soundTable, liveMatchAt, vacantAt, firstFrom, sameEndpoint, between, fromOpener, fromAnswerer};
 ghost use Rattle.table.specs.Words.{soundWord, soundNumbers, soundEntry};
 use connection::End;
@@ -30,14 +30,15 @@ pub enum Found {
 
 // Octets in whole words
 
-// Bitwise or, so that two tests for zero take one comparison: 0 exactly where both numbers are.
+// Bitwise or, 0 exactly where both numbers are: several zero tests then cost one branch.
 fn either(a: u64, b: u64) -> u64
     ensures { λ r. ⌜ (a ≤ r) × (b ≤ r) × (a ≡ 0 → b ≡ 0 → r ≡ 0) ⌝ }
 {
     a | b
 }
 
-// 0 exactly where the eight octets are zeros; any16 and any64 likewise.
+// The eight octets at an offset as one number, 0 exactly where each of them is. Least significant first, which is one load of the
+// machine; a zero test doesn't ask for the order.
 fn any8(table: &[u8], at: usize) -> u64
     requires { ⌜ at + 8 ≤ length (now table) ⌝ }
     ensures { λ r. ⌜ (r ≡ 0 → zerosAt (now (table .entry)) at 8 ≡ true) × (zerosAt (now (table .entry)) at 8 ≡ true → r ≡ 0) ⌝ }
@@ -45,6 +46,7 @@ fn any8(table: &[u8], at: usize) -> u64
     little32(table, at) as u64 + little32(table, at + 4) as u64 * 4294967296
 }
 
+// The same of 16 octets: 0 exactly where each of them is.
 fn any16(table: &[u8], at: usize) -> u64
     requires { ⌜ at + 16 ≤ length (now table) ⌝ }
     ensures { λ r. ⌜ (r ≡ 0 → zerosAt (now (table .entry)) at 16 ≡ true) × (zerosAt (now (table .entry)) at 16 ≡ true → r ≡ 0) ⌝ }
@@ -52,6 +54,7 @@ fn any16(table: &[u8], at: usize) -> u64
     either(any8(table, at), any8(table, at + 8))
 }
 
+// The same of 64 octets, a whole entry.
 fn any64(table: &[u8], at: usize) -> u64
     requires { ⌜ at + 64 ≤ length (now table) ⌝ }
     ensures { λ r. ⌜ (r ≡ 0 → zerosAt (now (table .entry)) at 64 ≡ true) × (zerosAt (now (table .entry)) at 64 ≡ true → r ≡ 0) ⌝ }
@@ -66,14 +69,14 @@ fn any64(table: &[u8], at: usize) -> u64
 
 // The header clock.
 pub fn clock(table: &[u8]) -> u64
-    requires { ⌜ 64 ≤ length (now table) ⌝ }
+    requires { ⌜ headerSize ≤ length (now table) ⌝ }
     ensures { λ r. ⌜ r ≡ headerClock (now (table .entry)) ⌝ }
 {
     read64(table, 0)
 }
 
 pub fn set_clock(table: &mut [u8], clock: u64)
-    requires { ⌜ 64 ≤ length (now table) ⌝ }
+    requires { ⌜ headerSize ≤ length (now table) ⌝ }
     ensures { λ r. ⌜ now (table .exit) ≡ overwrite (now (table .entry)) 0 (octetsOf 8 clock) ⌝ }
 {
     write64(table, 0, clock);
@@ -116,8 +119,8 @@ pub fn from_opener(entry: Entry, side: u8, from: Endpoint, to: Endpoint) -> bool
 }
 
 // The connection at an offset is between two endpoints, the opener's first. The first word differs nearly always.
-fn is_between(table: &[u8], at: usize, x: Endpoint, y: Endpoint) -> bool
-    requires { ⌜ at + 64 ≤ length (now table) ⌝ }
+fn between_at(table: &[u8], at: usize, x: Endpoint, y: Endpoint) -> bool
+    requires { ⌜ at + entrySize ≤ length (now table) ⌝ }
     ensures { λ r. ⌜ r ≡ between (entryAt (now (table .entry)) at) x y ⌝ }
 {
     if x.address != read32(table, at + 4) {
@@ -133,29 +136,29 @@ fn is_between(table: &[u8], at: usize, x: Endpoint, y: Endpoint) -> bool
 }
 
 // The opener's way round, by the entry at an offset.
-fn is_from_opener(table: &[u8], at: usize, side: u8, from: Endpoint, to: Endpoint) -> bool
-    requires { ⌜ at + 64 ≤ length (now table) ⌝ }
+fn from_opener_at(table: &[u8], at: usize, side: u8, from: Endpoint, to: Endpoint) -> bool
+    requires { ⌜ at + entrySize ≤ length (now table) ⌝ }
     ensures { λ r. ⌜ r ≡ fromOpener (entryAt (now (table .entry)) at) side from to ⌝ }
 {
-    if !is_between(table, at, from, to) {
+    if !between_at(table, at, from, to) {
         return false;
     }
     side == table[at + 1]
 }
 
 // The answerer's way round.
-fn is_from_answerer(table: &[u8], at: usize, side: u8, from: Endpoint, to: Endpoint) -> bool
-    requires { ⌜ at + 64 ≤ length (now table) ⌝ }
+fn from_answerer_at(table: &[u8], at: usize, side: u8, from: Endpoint, to: Endpoint) -> bool
+    requires { ⌜ at + entrySize ≤ length (now table) ⌝ }
     ensures { λ r. ⌜ r ≡ fromAnswerer (entryAt (now (table .entry)) at) side from to ⌝ }
 {
-    if !is_between(table, at, to, from) {
+    if !between_at(table, at, to, from) {
         return false;
     }
     side == other_side(table[at + 1])
 }
 
 // Free or expired: a free entry's deadline is 0.
-fn is_vacant(table: &[u8], place: usize, clock: u64) -> bool
+fn vacant_at(table: &[u8], place: usize, clock: u64) -> bool
     requires { ⌜ placeAt (place + 1) ≤ length (now table) ⌝ }
     ensures { λ r. ⌜ r ≡ vacantAt (now (table .entry)) clock place ⌝ }
 {
@@ -164,7 +167,7 @@ fn is_vacant(table: &[u8], place: usize, clock: u64) -> bool
 }
 
 // Live and a match; the deadline is read first.
-fn is_live_match(
+fn live_match_at(
     table: &[u8],
     place: usize,
     clock: u64,
@@ -175,14 +178,14 @@ fn is_live_match(
     requires { ⌜ placeAt (place + 1) ≤ length (now table) ⌝ }
     ensures { λ r. ⌜ r ≡ liveMatchAt (now (table .entry)) clock side from to place ⌝ }
 {
-    if is_vacant(table, place, clock) {
+    if vacant_at(table, place, clock) {
         return false;
     }
     let at = 64 + 64 * place;
-    if is_from_opener(table, at, side, from, to) {
+    if from_opener_at(table, at, side, from, to) {
         return true;
     }
-    is_from_answerer(table, at, side, from, to)
+    from_answerer_at(table, at, side, from, to)
 }
 
 // The search takes the first live match from place 0 up.
@@ -202,7 +205,7 @@ pub fn find(
         if places <= place {
             break Found::Nothing;
         }
-        if is_live_match(table, place, clock, side, from, to) {
+        if live_match_at(table, place, clock, side, from, to) {
             break Found::At(place);
         }
         place += 1;
@@ -220,7 +223,7 @@ pub fn vacant(table: &[u8], places: usize, clock: u64) -> Found
         if places <= next {
             break Found::Nothing;
         }
-        if is_vacant(table, next, clock) {
+        if vacant_at(table, next, clock) {
             break Found::At(next);
         }
         next += 1;
@@ -230,8 +233,10 @@ pub fn vacant(table: &[u8], places: usize, clock: u64) -> Found
 
 // Soundness
 
-// An entry's first four octets as one word: stage + 256·side + 65,536·FIN bits. k leaves out the side's bit: 1 to 3 in these stages, else
-// 4 with one FIN bit or 5 with both. The usual ones have a `match` of their own, since one tests its ranges last.
+// An entry's first four octets as one word: stage + 256·side + 65,536·FIN bits, the zero byte above them. `k` leaves out the side's
+// one bit, so that both sides are asked at once. Sound are 1 to 3 (stages 1 to 3 without FIN bits), 65,540 and 131,076 (stage 4 with
+// FIN bits 1 or 2) and 196,613 (stage 5 with FIN bits 3). 1 to 3 are the usual ones and have a `match` of their own, since a `match`
+// tests its ranges last.
 fn sound_word(w: u32) -> bool
     ensures { λ r. ⌜ r ≡ soundWord w ⌝ }
 {
@@ -259,7 +264,7 @@ fn sound_end(end: End) -> bool
 
 // Deadline, both records and the last 16 zeros.
 fn sound_numbers(table: &[u8], clock: u64, at: usize, opener: End, answerer: End) -> bool
-    requires { ⌜ (at + 64 ≤ length (now table)) × (clock < 2 ^ 48) ⌝ }
+    requires { ⌜ (at + entrySize ≤ length (now table)) × (clock < 2 ^ 48) ⌝ }
     ensures { λ r. ⌜ r ≡ soundNumbers (now (table .entry)) clock at opener answerer ⌝ }
 {
     if clock + 432_000_000 < read64(table, at + 16) {
@@ -292,7 +297,7 @@ fn sound_unanswered(opener: End, answerer: End) -> bool
 
 // The entry at an offset, by the header clock: free, or sound and in use.
 fn sound_entry(table: &[u8], clock: u64, at: usize) -> bool
-    requires { ⌜ (at + 64 ≤ length (now table)) × (clock < 2 ^ 48) ⌝ }
+    requires { ⌜ (at + entrySize ≤ length (now table)) × (clock < 2 ^ 48) ⌝ }
     ensures { λ r. ⌜ r ≡ soundEntry (now (table .entry)) clock at ⌝ }
 {
     let word = little32(table, at);
@@ -315,7 +320,7 @@ fn sound_entry(table: &[u8], clock: u64, at: usize) -> bool
 
 // Header clock under 2^48 and the header's rest zero.
 fn sound_header(table: &[u8]) -> bool
-    requires { ⌜ 64 ≤ length (now table) ⌝ }
+    requires { ⌜ headerSize ≤ length (now table) ⌝ }
     ensures { λ r. ⌜ r ≡ soundHeader (now (table .entry)) ⌝ }
 {
     if 281_474_976_710_656 <= clock(table) {

@@ -22,7 +22,9 @@ module _ (P : ℕ → ℕ → Type 0) where
   pub each-one : (at v : ℕ) → P at v → Each P at (v ∷ [])
   each-one at v p i h = let z : i ≡ 0 = omega arith in rw (z, add-zero) p
 
-  each-past : (at n : ℕ) (xs ys : List ℕ) → length xs ≡ n → Each P (at + n) ys → (j : ℕ) → j < length ys → P (at + (n + j)) (getD (xs ++ ys) (n + j) 0)
+  each-past :
+      (at n : ℕ) (xs ys : List ℕ) → length xs ≡ n → Each P (at + n) ys → (j : ℕ) → j < length ys →
+      P (at + (n + j)) (getD (xs ++ ys) (n + j) 0)
   each-past at n xs ys e back j h =
       rw (← e, getD-append-add xs ys j 0, ← add-assoc at (length xs) j, e) (back j h)
 

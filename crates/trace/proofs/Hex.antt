@@ -143,7 +143,9 @@ unfolding hexNumber number
 hexNumber-suc l at n = rw add-one
 
 -- and the digits of a number that was read are those that stand there
-pub hexDigits-hexNumber : (l : List ℕ) (at n : ℕ) → at + n ≤ length l → ((i : ℕ) → i < n → isHex (getD l (at + i) 0) ≡ true) → hexDigits n (hexNumber l at n) ≡ take n (drop at l)
+pub hexDigits-hexNumber :
+    (l : List ℕ) (at n : ℕ) → at + n ≤ length l → ((i : ℕ) → i < n → isHex (getD l (at + i) 0) ≡ true) →
+    hexDigits n (hexNumber l at n) ≡ take n (drop at l)
 unfolding hexNumber hexDigits
 hexDigits-hexNumber l at n fits each =
     ap (map hexDigit) (digits-number 16 (λ i. hexValue (getD l (at + i) 0)) n (omega arith) (λ i h. hexValue<16 (getD l (at + i) 0)))
@@ -180,7 +182,9 @@ drop-hexPairs bs i h =
     (length-hexPairs (take i bs) ∙ ap (λ (k : ℕ). 2 * k) (length-take-le i bs h))
 
 -- pairs that stand in l, read byte for byte, are written back
-pub hexPairs-tabulate : (f : ℕ → ℕ) (l : List ℕ) (n : ℕ) → ((i : ℕ) → i < n → hexDigits 2 (f i) ≡ take 2 (drop (2 * i) l)) → hexPairs (tabulate f n) ≡ take (2 * n) l
+pub hexPairs-tabulate :
+    (f : ℕ → ℕ) (l : List ℕ) (n : ℕ) → ((i : ℕ) → i < n → hexDigits 2 (f i) ≡ take 2 (drop (2 * i) l)) →
+    hexPairs (tabulate f n) ≡ take (2 * n) l
 unfolding hexPairs tabulate
 hexPairs-tabulate f l zero same = refl
 hexPairs-tabulate f l (suc n) same =

@@ -33,7 +33,9 @@ zeros-legal n some most =
     })
 
 -- bytes that may stand, written over the beginning of a legal line, leave it legal
-begun-legal : (l m : List ℕ) (n k : ℕ) → LegalLine m n → k ≤ length l → k ≤ length m → ((i : ℕ) → i < k → mayStand i (getD l i 0) ≡ true) → LegalLine (take k l ++ drop k m) n
+begun-legal :
+    (l m : List ℕ) (n k : ℕ) → LegalLine m n → k ≤ length l → k ≤ length m → ((i : ℕ) → i < k → mayStand i (getD l i 0) ≡ true) →
+    LegalLine (take k l ++ drop k m) n
 begun-legal l m n k legal inside fits stand =
     let size = length-take-le k l inside in
     let back : Each Stand (0 + k) (drop k m) =

@@ -18,7 +18,9 @@ use Rattle.trace.proofs.Line.{packetLength-legal}
 
 -- The first illegal byte, with n - i bytes left
 
-pub illegalFrom-legal : (l : List ℕ) (i n : ℕ) → i < n → mayStand i (getD l i 0) ≡ true → illegalFrom l i (n - i) ≡ illegalFrom l (i + 1) (n - (i + 1))
+pub illegalFrom-legal :
+    (l : List ℕ) (i n : ℕ) → i < n → mayStand i (getD l i 0) ≡ true →
+    illegalFrom l i (n - i) ≡ illegalFrom l (i + 1) (n - (i + 1))
 unfolding illegalFrom
 illegalFrom-legal l i n h e =
     let k : n - i ≡ suc (n - (i + 1)) = omega arith in rw k (if-true _ _ _ e)
@@ -52,7 +54,9 @@ record First (l : List ℕ) (i end r : ℕ) : Type 0 where
   before : (j : ℕ) → i ≤ j → j < r → mayStand j (getD l j 0) ≡ true
   here : r < end → mayStand r (getD l r 0) ≡ false
 
-first-step : (l : List ℕ) (i end r : ℕ) (t : Bool) → mayStand i (getD l i 0) ≡ t → i < end → First l (i + 1) end r → First l i end (if t then r else i)
+first-step :
+    (l : List ℕ) (i end r : ℕ) (t : Bool) → mayStand i (getD l i 0) ≡ t → i < end → First l (i + 1) end r →
+    First l i end (if t then r else i)
 unfolding if_then_else_
 first-step l i end r true e h f =
     record {
@@ -163,7 +167,9 @@ module _ (l : List ℕ) (room : ℕ) where
   readLine-no-room h e less =
       if-false _ _ _ (le-ltb 4111 (length l) h) ∙ if-false _ _ _ (rw e) ∙ if-true _ _ _ (lt-ltb room (packetLength l) less)
 
-  pub readLine-frame : length l ≤ 4111 → wellFormed l ≡ true → packetLength l ≤ room → readLine l room ≡ Frame (sideOf l) (clockOf l) (packetLength l)
+  pub readLine-frame :
+      length l ≤ 4111 → wellFormed l ≡ true → packetLength l ≤ room →
+      readLine l room ≡ Frame (sideOf l) (clockOf l) (packetLength l)
   unfolding readLine
   readLine-frame h e fits =
       if-false _ _ _ (le-ltb 4111 (length l) h) ∙ if-false _ _ _ (rw e) ∙ if-false _ _ _ (le-ltb room (packetLength l) fits)

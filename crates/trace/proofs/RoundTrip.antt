@@ -15,7 +15,9 @@ use Rattle.trace.proofs.Write.{writeLine-legal}
 
 -- What stands in the output
 
-charactersWritten-legal : (side clock : ℕ) (packet line : List ℕ) → LegalValues side clock packet → 15 + 2 * length packet ≤ length line → charactersWritten (15 + 2 * length packet) side clock packet line ≡ lineOf side clock packet
+charactersWritten-legal :
+    (side clock : ℕ) (packet line : List ℕ) → LegalValues side clock packet → 15 + 2 * length packet ≤ length line →
+    charactersWritten (15 + 2 * length packet) side clock packet line ≡ lineOf side clock packet
 unfolding lineAfter
 charactersWritten-legal side clock packet line legal room =
     let size = length-lineOf side clock packet in

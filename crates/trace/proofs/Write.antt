@@ -15,7 +15,9 @@ use Rattle.trace.specs.Write.{writeLine}
 use Rattle.trace.specs.declared.LineWrite.the-variants.{Written}
 use Rattle.trace.proofs.Hex.{length-hexDigits, hexPairs-drop}
 
-pub writeLine-written : (side clock n room : ℕ) → side < 2 → clock < 2 ^ 48 → 1 ≤ n → n ≤ 2048 → 15 + 2 * n ≤ room → writeLine side clock n room ≡ Written (15 + 2 * n)
+pub writeLine-written :
+    (side clock n room : ℕ) → side < 2 → clock < 2 ^ 48 → 1 ≤ n → n ≤ 2048 → 15 + 2 * n ≤ room →
+    writeLine side clock n room ≡ Written (15 + 2 * n)
 unfolding writeLine
 writeLine-written side clock n room known early some most fits =
     if-false _ _ _ (le-ltb 1 side (omega arith))
@@ -24,24 +26,32 @@ writeLine-written side clock n room known early some most fits =
     ∙ if-false _ _ _ (le-ltb 2048 n most)
     ∙ if-false _ _ _ (le-ltb room (15 + 2 * n) fits)
 
-pub writeLine-legal : (side clock : ℕ) (packet : List ℕ) (room : ℕ) → LegalValues side clock packet → 15 + 2 * length packet ≤ room → writeLine side clock (length packet) room ≡ Written (15 + 2 * length packet)
+pub writeLine-legal :
+    (side clock : ℕ) (packet : List ℕ) (room : ℕ) → LegalValues side clock packet → 15 + 2 * length packet ≤ room →
+    writeLine side clock (length packet) room ≡ Written (15 + 2 * length packet)
 writeLine-legal side clock packet room legal fits =
     writeLine-written side clock (length packet) room (legal .side-known) (legal .clock-fits) (legal .some) (legal .most) fits
 
 -- the last digit, stored first, leaves the digits before it to be written
-pub overwrite-hexDigits : (l : List ℕ) (at i v : ℕ) → 0 < i → at + i ≤ length l → overwrite (set l (at + (i - 1)) (hexDigit (v % 16))) at (hexDigits (i - 1) (v / 16)) ≡ overwrite l at (hexDigits i v)
+pub overwrite-hexDigits :
+    (l : List ℕ) (at i v : ℕ) → 0 < i → at + i ≤ length l →
+    overwrite (set l (at + (i - 1)) (hexDigit (v % 16))) at (hexDigits (i - 1) (v / 16)) ≡ overwrite l at (hexDigits i v)
 unfolding hexDigits
 overwrite-hexDigits = overwrite-map-digits hexDigit 16
 
 -- a pair, written, leaves the pairs after it to be written
-pub overwrite-hexPairs : (l bs : List ℕ) (i : ℕ) → i < length bs → 15 + 2 * i + 2 ≤ length l → overwrite (overwrite l (15 + 2 * i) (hexDigits 2 (getD bs i 0))) (15 + 2 * (i + 1)) (hexPairs (drop (i + 1) bs)) ≡ overwrite l (15 + 2 * i) (hexPairs (drop i bs))
+pub overwrite-hexPairs :
+    (l bs : List ℕ) (i : ℕ) → i < length bs → 15 + 2 * i + 2 ≤ length l →
+    overwrite (overwrite l (15 + 2 * i) (hexDigits 2 (getD bs i 0))) (15 + 2 * (i + 1)) (hexPairs (drop (i + 1) bs)) ≡ overwrite l (15 + 2 * i) (hexPairs (drop i bs))
 overwrite-hexPairs l bs i inside fits =
     let next : 15 + 2 * (i + 1) ≡ 15 + 2 * i + 2 = omega arith in
     rw (next, hexPairs-drop bs i inside)
     (overwrite-join l (15 + 2 * i) 2 (hexDigits 2 (getD bs i 0)) (hexPairs (drop (i + 1) bs)) (length-hexDigits 2 (getD bs i 0)) fits)
 
 -- side, space, clock, space and packet, written one after the other, are the line
-pub overwrite-lineOf : (side clock : ℕ) (packet l m : List ℕ) → 15 ≤ length l → m ≡ overwrite (set (set l 0 (48 + side)) 1 32) 2 (hexDigits 12 clock) → overwrite (set m 14 32) 15 (hexPairs packet) ≡ overwrite l 0 (lineOf side clock packet)
+pub overwrite-lineOf :
+    (side clock : ℕ) (packet l m : List ℕ) → 15 ≤ length l → m ≡ overwrite (set (set l 0 (48 + side)) 1 32) 2 (hexDigits 12 clock) →
+    overwrite (set m 14 32) 15 (hexPairs packet) ≡ overwrite l 0 (lineOf side clock packet)
 unfolding lineOf
 overwrite-lineOf side clock packet l m long e =
     let front : List ℕ = (48 + side) ∷ 32 ∷ hexDigits 12 clock in

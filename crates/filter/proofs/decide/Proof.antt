@@ -4,6 +4,7 @@ use mathlib.Core.Bool.{not}
 use native.Mathlib.Omega.{arith}
 use lib.ListN.{length}
 use borrow.Author.Tests.{not-false}
+use Rattle.entry.specs.Layout.{placeAt}
 use Rattle.packet.specs.Read.{readPacket}
 use Rattle.filter.specs.Call.{onPacket}
 use Rattle.filter.specs.Decision.{decisionOf}
@@ -13,7 +14,7 @@ use Rattle.filter.proofs.decide.Statement.{statement}
 use Rattle.filter.proofs.decide.Tie as tie
 
 -- past row 3 the table has a header and a place
-long : (e : tie.Else3) → 128 ≤ length (e .before .before .before .before .before .before .args .table .now)
+long : (e : tie.Else3) → placeAt 1 ≤ length (e .before .before .before .before .before .before .args .table .now)
 long e = legal-length-bounds _ (not-false _ (ap not (sym (e .before .legal-length .ensures)) ∙ e .if3 .left)) .0
 
 blocked-requires : tie.Need-blocked-requires

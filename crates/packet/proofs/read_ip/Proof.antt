@@ -9,7 +9,9 @@ use Rattle.packet.proofs.read_ip.Statement.{statement}
 use Rattle.packet.proofs.read_ip.Tie as tie
 
 -- the part that was summed is the header
-summed : (c : tie.After-header-sum) → c .header-sum .result ≡ onesSum (take (c .before .before .before .args .h) (c .before .before .before .args .s .now))
+summed :
+    (c : tie.After-header-sum) →
+    c .header-sum .result ≡ onesSum (take (c .before .before .before .args .h) (c .before .before .before .args .s .now))
 summed c = c .header-sum .ensures ∙ ap (λ (k : ℕ). onesSum (take k (c .before .before .before .args .s .now))) (sub-zero (c .before .before .before .args .h))
 
 sub-header-sum : tie.Need-sub-header-sum

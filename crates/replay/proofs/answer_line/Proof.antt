@@ -20,7 +20,9 @@ read-as : (c : tie.After-read-line) → c .read-line .result ≡ readLine (c .be
 read-as c = c .read-line .ensures .0 ∙ ap (readLine (c .before .before .before .before .args .text .now)) (packet-room c)
 
 -- what the filter is shown is the line's packet
-framed : (c : tie.After-read2) → (c .read2 .given .0 .1 .1 .0 ≤ room) × (take (c .read2 .given .0 .1 .1 .0 - 0) (drop 0 (c .before .before .read-line .last .1 .0)) ≡ packetOf (c .before .before .before .before .before .before .args .text .now))
+framed :
+    (c : tie.After-read2) →
+    (c .read2 .given .0 .1 .1 .0 ≤ room) × (take (c .read2 .given .0 .1 .1 .0 - 0) (drop 0 (c .before .before .read-line .last .1 .0)) ≡ packetOf (c .before .before .before .before .before .before .args .text .now))
 framed c =
     let read = c .before .before in
     let a = read .before .before .before .before .args in

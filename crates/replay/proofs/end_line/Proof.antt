@@ -17,7 +17,9 @@ use Rattle.replay.proofs.end_line.Tie as tie
 abbrev result : (c : tie.After-answer-line) → Result
 result c = record { answer = c .answer-line .result .answer; shown = c .answer-line .result .shown; table = c .answer-line .last .1 .1 .0 }
 
-result-of-line : (c : tie.After-answer-line) → result c ≡ resultOf (take (c .before .before .before .before .before .before .before .args .progress .kept) (c .before .before .before .before .before .before .before .args .line .now)) (c .before .before .before .before .before .before .before .args .table .now)
+result-of-line :
+    (c : tie.After-answer-line) →
+    result c ≡ resultOf (take (c .before .before .before .before .before .before .before .args .progress .kept) (c .before .before .before .before .before .before .before .args .line .now)) (c .before .before .before .before .before .before .before .args .table .now)
 result-of-line c = rw sub-zero at (c .answer-line .ensures)
 
 text-short : (c : tie.After-answer-line) → length (resultText (c .answer-line .result .answer) (c .answer-line .result .shown)) ≤ resultRoom

@@ -54,7 +54,9 @@ line-kept c =
     let kept = c .keep .ensures in
     afterPiece-line (at-head t) (piece-of t) _ (t .loop .at) _ _ (omega arith) (c .before .before .before .newline-from .ensures .0) (kept .0, kept .1)
 
-newline-inside : (c : tie.Else1 Inv-loop μ-loop) → c .before .before .before .before .before .before .newline-from .result < length (piece-of (c .before .before .before .before .before .before .before))
+newline-inside :
+    (c : tie.Else1 Inv-loop μ-loop) →
+    c .before .before .before .before .before .before .newline-from .result < length (piece-of (c .before .before .before .before .before .before .before))
 newline-inside c = omega arith
 
 -- and the newline ends the line

@@ -10,7 +10,10 @@ use Rattle.replay.proofs.smallest.Statement.{statement}
 use Rattle.replay.proofs.smallest.Tie as tie
 
 -- one byte further
-further : (l : List ℕ) (at i low new : ℕ) → ((k : ℕ) → k < i → low ≤ getD l (at + k) 0) → new ≡ min low (getD l (at + i) 0) → (k : ℕ) → k < i + 1 → new ≤ getD l (at + k) 0
+further :
+    (l : List ℕ) (at i low new : ℕ) → ((k : ℕ) → k < i → low ≤ getD l (at + k) 0) → new ≡ min low (getD l (at + i) 0) → (k : ℕ) →
+    k < i + 1 →
+    new ≤ getD l (at + k) 0
 further l at i low new all is k inside =
     ⊎-elim (λ (less : k < i). let h = all k less in omega arith)
     (λ (more : i ≤ k). let e : k ≡ i = omega arith in rw e (omega arith)) (lt-or-ge k i)

@@ -14,7 +14,9 @@ use borrow.Author.Needs.{needs}
 use Rattle.script.proofs.put_decimal.Statement.{statement}
 use Rattle.script.proofs.put_decimal.Tie as tie
 
-text-in-front : (l m text : List ℕ) (n : ℕ) → length text ≤ length l → (n ≡ 0 + length text) × (m ≡ overwrite l 0 text) → take (n - 0) m ≡ text
+text-in-front :
+    (l m text : List ℕ) (n : ℕ) → length text ≤ length l → (n ≡ 0 + length text) × (m ≡ overwrite l 0 text) →
+    take (n - 0) m ≡ text
 text-in-front l m text n fits written =
     rw (sub-zero, written .1, written .0, zero-add) (overwrite-there l 0 text (rw zero-add fits))
 

@@ -20,8 +20,8 @@ abbrev μ-loop : tie.MeasureT-loop
 loop-holds : tie.Need-loop-holds Inv-loop μ-loop
 loop-holds c = (search needs, rw sub-zero)
 
-is-live-match-requires : tie.Need-is-live-match-requires Inv-loop μ-loop
-is-live-match-requires c κs = omega arith
+live-match-at-requires : tie.Need-live-match-at-requires Inv-loop μ-loop
+live-match-at-requires c κs = omega arith
 
 add-place : tie.Need-add-place Inv-loop μ-loop
 add-place c = omega arith
@@ -32,7 +32,7 @@ loop-less c = omega arith
 loop-again : tie.Need-loop-again Inv-loop μ-loop
 loop-again c =
     let l = c .before .before .before .loop in
-    (omega arith, l .inv .1 ∙ first-is-further _ _ _ (omega arith) (sym (c .before .is-live-match .ensures) ∙ c .if2 .left))
+    (omega arith, l .inv .1 ∙ first-is-further _ _ _ (omega arith) (sym (c .before .live-match-at .ensures) ∙ c .if2 .left))
 
 returns : tie.Need-returns Inv-loop μ-loop
 returns c = sym (c .before .loop .inv .1 ∙ first-is-nothing _ _ _ (c .if1 .taken))
@@ -40,7 +40,7 @@ returns c = sym (c .before .loop .inv .1 ∙ first-is-nothing _ _ _ (c .if1 .tak
 returns-2 : tie.Need-returns-2 Inv-loop μ-loop
 returns-2 c =
     let l = c .before .before .before .loop in
-    sym (l .inv .1 ∙ first-is-here _ _ _ (omega arith) (sym (c .before .is-live-match .ensures) ∙ c .if2 .taken))
+    sym (l .inv .1 ∙ first-is-here _ _ _ (omega arith) (sym (c .before .live-match-at .ensures) ∙ c .if2 .taken))
 
 pub find-spec : {M : Type 1} → statement M
 find-spec =
@@ -49,7 +49,7 @@ find-spec =
     Inv-loop
     μ-loop
     loop-holds
-    is-live-match-requires
+    live-match-at-requires
     add-place
     loop-less
     loop-again

@@ -1,7 +1,7 @@
 use mathlib.Core.Path.{sym, _∙_}
 use native.Mathlib.Omega.{arith}
 use borrow.Author.Tests.{not-true, not-false}
-use Rattle.table.proofs.Zeros.{zero-tests}
+use Rattle.choice.proofs.Tests.{eqb-0≡test}
 use Rattle.table.proofs.Words.{entry-of-no-word, entry-not-by-word, entry-not-by-numbers, entry-unanswered, entry-answered}
 use borrow.Author.Needs.{needs}
 use Rattle.table.proofs.sound_entry.Statement.{statement}
@@ -16,7 +16,7 @@ any64-requires c κs = search needs
 returns : tie.Need-returns
 returns c =
     let a = c .before .before .before .before .args in
-    zero-tests _ _ (c .any64 .ensures) ∙ sym (entry-of-no-word (a .table .now) (a .clock) (a .at) (omega arith))
+    eqb-0≡test _ _ (c .any64 .ensures) ∙ sym (entry-of-no-word (a .table .now) (a .clock) (a .at) (omega arith))
 
 sound-word-requires : tie.Need-sound-word-requires
 sound-word-requires c κs = search needs

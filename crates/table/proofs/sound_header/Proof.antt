@@ -1,6 +1,7 @@
 use mathlib.Core.Path.{sym, _∙_}
 use native.Mathlib.Omega.{arith}
-use Rattle.table.proofs.Zeros.{zero-tests, zeros-join, zeros-part}
+use Rattle.choice.proofs.Tests.{eqb-0≡test}
+use Rattle.table.proofs.Zeros.{zeros-join, zeros-part}
 use Rattle.table.proofs.Words.{header-not-by-clock, header-by-rest}
 use borrow.Author.Needs.{needs}
 use Rattle.table.proofs.sound_header.Statement.{statement}
@@ -45,7 +46,7 @@ returns-2 c =
     let z = d .before .any162 .ensures in
     let y = d .before .before .any16 .ensures in
     let x = e .any8 .ensures in
-    zero-tests _ _ (
+    eqb-0≡test _ _ (
       λ h. zeros-join t 8 48 8 (x .0 (omega (arith, h, o3 .0)))
           (zeros-join t 16 32 16 (y .0 (omega (arith, h, o3 .1, o2 .0)))
           (zeros-join t 16 16 32 (z .0 (omega (arith, h, o3 .1, o2 .1, o .0))) (w .0 (omega (arith, h, o3 .1, o2 .1, o .1))))),

@@ -1,6 +1,6 @@
 use mathlib.Core.Path.{sym, _∙_}
 use borrow.Author.Tests.{not-true, not-false}
-use Rattle.table.proofs.Zeros.{zero-tests}
+use Rattle.choice.proofs.Tests.{eqb-0≡test}
 use Rattle.table.proofs.Words.{numbers-not-by-deadline, numbers-not-by-opener, numbers-not-by-answerer, numbers-by-zeros}
 use borrow.Author.Needs.{needs}
 use Rattle.table.proofs.sound_numbers.Statement.{statement}
@@ -41,7 +41,7 @@ returns-4 c =
     let a = c .before in
     let o = a .before .before in
     let d = o .before .before in
-    zero-tests _ _ (c .any16 .ensures)
+    eqb-0≡test _ _ (c .any16 .ensures)
     ∙ sym (numbers-by-zeros _ _ _ _ _ (rw (d .before .read64 .ensures) at (d .if1 .left))
     (sym (o .before .sound-end .ensures) ∙ not-false _ (o .if2 .left)) (sym (a .before .sound-end2 .ensures) ∙ not-false _ (a .if3 .left)))
 

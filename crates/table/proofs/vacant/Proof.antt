@@ -20,8 +20,8 @@ abbrev μ-loop : tie.MeasureT-loop
 loop-holds : tie.Need-loop-holds Inv-loop μ-loop
 loop-holds c = (search needs, rw sub-zero)
 
-is-vacant-requires : tie.Need-is-vacant-requires Inv-loop μ-loop
-is-vacant-requires c κs = omega arith
+vacant-at-requires : tie.Need-vacant-at-requires Inv-loop μ-loop
+vacant-at-requires c κs = omega arith
 
 add-next : tie.Need-add-next Inv-loop μ-loop
 add-next c = omega arith
@@ -32,7 +32,7 @@ loop-less c = omega arith
 loop-again : tie.Need-loop-again Inv-loop μ-loop
 loop-again c =
     let l = c .before .before .before .loop in
-    (omega arith, l .inv .1 ∙ first-is-further _ _ _ (omega arith) (sym (c .before .is-vacant .ensures) ∙ c .if2 .left))
+    (omega arith, l .inv .1 ∙ first-is-further _ _ _ (omega arith) (sym (c .before .vacant-at .ensures) ∙ c .if2 .left))
 
 returns : tie.Need-returns Inv-loop μ-loop
 returns c = sym (c .before .loop .inv .1 ∙ first-is-nothing _ _ _ (c .if1 .taken))
@@ -40,7 +40,7 @@ returns c = sym (c .before .loop .inv .1 ∙ first-is-nothing _ _ _ (c .if1 .tak
 returns-2 : tie.Need-returns-2 Inv-loop μ-loop
 returns-2 c =
     let l = c .before .before .before .loop in
-    sym (l .inv .1 ∙ first-is-here _ _ _ (omega arith) (sym (c .before .is-vacant .ensures) ∙ c .if2 .taken))
+    sym (l .inv .1 ∙ first-is-here _ _ _ (omega arith) (sym (c .before .vacant-at .ensures) ∙ c .if2 .taken))
 
 pub vacant-spec : {M : Type 1} → statement M
 vacant-spec =
@@ -49,7 +49,7 @@ vacant-spec =
     Inv-loop
     μ-loop
     loop-holds
-    is-vacant-requires
+    vacant-at-requires
     add-next
     loop-less
     loop-again

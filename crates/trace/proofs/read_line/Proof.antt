@@ -17,12 +17,16 @@ use borrow.Author.Needs.{needs}
 use Rattle.trace.proofs.read_line.Statement.{statement}
 use Rattle.trace.proofs.read_line.Tie as tie
 
-malformed : (l out : List ℕ) (offset : ℕ) → offset ≡ firstIllegal l → length l ≤ 4111 → wellFormed l ≡ false → (Malformed offset ≡ readLine l (length out)) × (out ≡ packetAfter (Malformed offset) l out)
+malformed :
+    (l out : List ℕ) (offset : ℕ) → offset ≡ firstIllegal l → length l ≤ 4111 → wellFormed l ≡ false →
+    (Malformed offset ≡ readLine l (length out)) × (out ≡ packetAfter (Malformed offset) l out)
 unfolding packetAfter
 malformed l out offset e short bad = (ap Malformed e ∙ sym (readLine-malformed l (length out) short bad), refl)
 
 -- the bytes by the line and the output alone, and document 01's numbers
-told : (l out : List ℕ) {r : LineRead} {after : List ℕ} → (r ≡ readLine l (length out)) × (after ≡ packetAfter r l out) → (r ≡ readLine l (length out)) × (after ≡ packetAfterReading l out) × (readAnswer r ≡ reading l out)
+told :
+    (l out : List ℕ) {r : LineRead} {after : List ℕ} → (r ≡ readLine l (length out)) × (after ≡ packetAfter r l out) →
+    (r ≡ readLine l (length out)) × (after ≡ packetAfterReading l out) × (readAnswer r ≡ reading l out)
 told l out p = (p .0, p .1 ∙ ap (λ r. packetAfter r l out) (p .0), ap readAnswer (p .0))
 
 well-formed : (c : tie.Else4) → wellFormed (c .before .before .before .before .before .before .before .args .line .now) ≡ true

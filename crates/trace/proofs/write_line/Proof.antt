@@ -14,7 +14,10 @@ use Rattle.trace.proofs.write_line.Statement.{statement}
 use Rattle.trace.proofs.write_line.Tie as tie
 
 -- the bytes by what is written and the output alone, and document 01's numbers
-told : (side clock : ℕ) (packet line : List ℕ) {r : LineWrite} {after : List ℕ} → (r ≡ writeLine side clock (length packet) (length line)) × (after ≡ lineAfter r side clock packet line) → (r ≡ writeLine side clock (length packet) (length line)) × (after ≡ lineAfterWriting side clock packet line) × (writeAnswer r ≡ writing side clock packet line)
+told :
+    (side clock : ℕ) (packet line : List ℕ) {r : LineWrite} {after : List ℕ} →
+    (r ≡ writeLine side clock (length packet) (length line)) × (after ≡ lineAfter r side clock packet line) →
+    (r ≡ writeLine side clock (length packet) (length line)) × (after ≡ lineAfterWriting side clock packet line) × (writeAnswer r ≡ writing side clock packet line)
 told side clock packet line p = (p .0, p .1 ∙ ap (λ r. lineAfter r side clock packet line) (p .0), ap writeAnswer (p .0))
 
 returns : tie.Need-returns

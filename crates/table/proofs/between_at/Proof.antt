@@ -2,8 +2,8 @@ use mathlib.Core.Path.{sym, _∙_}
 use Rattle.entry.specs.Layout.{entryAt}
 use Rattle.table.proofs.Match.{not-between-by-first-address, not-between-by-second-address, not-between-by-first-port, between-by-second-port}
 use borrow.Author.Needs.{needs}
-use Rattle.table.proofs.is_between.Statement.{statement}
-use Rattle.table.proofs.is_between.Tie as tie
+use Rattle.table.proofs.between_at.Statement.{statement}
+use Rattle.table.proofs.between_at.Tie as tie
 
 add-read32 : tie.Need-add-read32
 add-read32 c = search needs
@@ -51,8 +51,8 @@ returns-4 c =
     (sym (between-by-second-port _ _ _
     (e1 .if1 .left ∙ e1 .before .before .read32 .ensures) (e2 .if2 .left ∙ e2 .before .before .read322 .ensures) (e3 .if3 .left ∙ e3 .before .before .read16 .ensures)))
 
-pub is-between-spec : {M : Type 1} → statement M
-is-between-spec =
+pub between-at-spec : {M : Type 1} → statement M
+between-at-spec =
     tie.close
     (tie.spec
     add-read32

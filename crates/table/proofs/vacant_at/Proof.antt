@@ -4,8 +4,8 @@ use Rattle.choice.specs.Choice.{_≤ᵇ_}
 use Rattle.entry.specs.Layout.{entryAt, connectionAt}
 use Rattle.table.specs.Table.{vacantAt}
 use borrow.Author.Needs.{needs}
-use Rattle.table.proofs.is_vacant.Statement.{statement}
-use Rattle.table.proofs.is_vacant.Tie as tie
+use Rattle.table.proofs.vacant_at.Statement.{statement}
+use Rattle.table.proofs.vacant_at.Tie as tie
 
 mul-at : tie.Need-mul-at
 mul-at c = search needs
@@ -23,5 +23,5 @@ returns : tie.Need-returns
 unfolding vacantAt entryAt connectionAt
 returns c = ap (λ (d : ℕ). d ≤ᵇ c .before .before .args .clock) (c .read64 .ensures)
 
-pub is-vacant-spec : {M : Type 1} → statement M
-is-vacant-spec = tie.close (tie.spec mul-at add-at add-read64 read64-requires returns)
+pub vacant-at-spec : {M : Type 1} → statement M
+vacant-at-spec = tie.close (tie.spec mul-at add-at add-read64 read64-requires returns)
