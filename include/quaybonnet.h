@@ -3,8 +3,9 @@
  *
  * Of every call: pointers must be valid for as many bytes as the lengths say and must not overlap, and none may be NULL, not even with
  * length 0. Bytes need no alignment; the numbers that clock, length and offset point to are aligned as C has them. While a call runs,
- * nobody else may write what it is lent: no other thread, and no device. The library keeps no state of its own, so calls that are lent
- * different memory may run at the same time. No call allocates, blocks or fails in another way than by its number.
+ * no other thread and no device may write what it is lent, nor read what it may write (the table, the outputs). The library keeps no state
+ * of its own, so calls may run at the same time if what one may write is lent to no other. No call allocates memory or waits, and a refusal
+ * is told by the returned number alone.
  */
 #ifndef QUAYBONNET_H
 #define QUAYBONNET_H
@@ -31,13 +32,13 @@ extern "C" {
  *    1  side is not 0 or 1
  *    2  clock is 2^48 ms or more
  *    3  table_len is not QB_TABLE_LENGTH(n) with n from 1 to 512
- *    4  the table is unsound: no filter has left it so
- *    5  there is no whole IPv4 header, or its lengths do not fit the packet
+ *    4  the table is unsound: its clock, an entry or a byte that has to be zero is not as document 01 has it (no call leaves it so)
+ *    5  it is not IPv4, its header is not whole, or its lengths do not fit the bytes given
  *    6  the IPv4 header's checksum is wrong
  *    7  it is a fragment
  *    8  it is not TCP
  *    9  there is no whole TCP header within the packet
- *   10  its flags are those of no good segment, or it is a SYN with payload
+ *   10  SYN with FIN or RST; none of SYN, ACK and RST; or SYN with payload
  *   11  no live connection matches, and it is not a SYN without ACK from side 0
  *   12  it would open a connection, and no place is free or expired
  *   13  the connection's SYN is not answered yet, and this is neither the same SYN nor an answer to it

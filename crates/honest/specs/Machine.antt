@@ -19,7 +19,8 @@ pub data Reading (A : Type 0) : Type 0 where
   asks : A → Reading A
   apart : Reading A
 
--- `view` says which table a state is, or is a part of it, `reads` what a call asks. Both are part of the claim, so read them too
+-- `view` gives the table that a state holds, or the part of it that is spoken of; `reads` gives what a call asks. Both are part of the
+-- claim, so read them too
 pub record Machine (K : Keys) : Type 1 where
   pub State : Type 0
   pub Call : Type 0

@@ -71,8 +71,8 @@ module _ {Call : Type 0} where
   receivedBy i (delivery k p ∷ L) = if p .from =ᵇ i then receivedBy i L else p ∷ receivedBy i L
 
 -- "each end's arrivals are its sendings in order, .. some left out, some several times in a row": of end i, none after its k-th has arrived
-abbrev pub InOrder : (Arrived : ℕ → LineSegment → Type 0) (i k : ℕ) → Type 0
-InOrder Arrived i k = (j : ℕ) (g : LineSegment) → Arrived j g → g .from ≡ i → j ≤ k
+abbrev pub InOrder : (HasArrived : ℕ → LineSegment → Type 0) (i k : ℕ) → Type 0
+InOrder HasArrived i k = (j : ℕ) (g : LineSegment) → HasArrived j g → g .from ≡ i → j ≤ k
 
 -- the highest of a number over segments, 0 over none
 unfoldable pub highest : (LineSegment → ℕ) → List LineSegment → ℕ

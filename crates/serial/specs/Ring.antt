@@ -24,7 +24,7 @@ nearest E s =
     if ringMinus s (wrap E) <ᵇ 2 ^ 31 then E + ringMinus s (wrap E)
     else E + ringMinus s (wrap E) - 2 ^ 32
 
--- no other place with that sequence number lies so near
+-- it is the one place with that sequence number from half a turn behind E, included, to half a turn ahead, left out
 abbrev pub NearestIs : Type 0
 NearestIs =
     (E s X : ℕ) → 2 ^ 31 ≤ E → s < 2 ^ 32 →

@@ -235,8 +235,8 @@ pub fn vacant(table: &[u8], places: usize, clock: u64) -> Found
 
 // An entry's first four octets as one word: stage + 256·side + 65,536·FIN bits, the zero byte above them. `k` leaves out the side's
 // one bit, so that both sides are asked at once. Sound are 1 to 3 (stages 1 to 3 without FIN bits), 65,540 and 131,076 (stage 4 with
-// FIN bits 1 or 2) and 196,613 (stage 5 with FIN bits 3). 1 to 3 are the usual ones and have a `match` of their own, since a `match`
-// tests its ranges last.
+// FIN bits 1 or 2) and 196,613 (stage 5 with FIN bits 3). 1 to 3 are the usual ones, so they come first, in a `match` of
+// their own: the compiler tests a `match`'s single numbers before its ranges.
 fn sound_word(w: u32) -> bool
     ensures { λ r. ⌜ r ≡ soundWord w ⌝ }
 {
