@@ -3,10 +3,17 @@ use Prim.Native.Nat.{ℕ, _+_, _-_, _%_, _≤_, _<_}
 use mathlib.Core.Path.{_≡_, sym, ap, _∙_}
 use mathlib.Core.Logic.{inl, ⊎-elim}
 use mathlib.Core.Bool.{true}
-use mathlib.Core.List.{List, []}
+use mathlib.Core.List.{List, [], _∷_}
+use Rattle.octets.specs.Octets.{Octets}
+use Rattle.octets.proofs.Overwrite.{length-overwrite, getD-overwrite, getD-overwrite-before, getD-overwrite-after}
+use Rattle.octets.proofs.Octets.{bytes-[], bytes-∷, octets-overwrite}
+use Rattle.entry.proofs.Places.{header-first}
+use Rattle.table.specs.Table.{headerMark}
+use Rattle.table.proofs.Words.{mark-most}
+use Rattle.filter.proofs.Rows.{places-made, length-made}
+use Rattle.demands.specs.Demands.{freshBytes}
 use native.Mathlib.Omega.{arith}
 use lib.ListN.{length, getD, replicate, length-replicate, getD-replicate, List·getD-eq-default}
-use lib.Seq.{ext-getD}
 use borrow.Author.Tests.{le-leb, eq-eqb}
 use Rattle.choice.proofs.Tests.{lt-or-ge}
 use Rattle.octets.specs.BigEndian.{bigEndian}
@@ -16,74 +23,83 @@ use Rattle.entry.specs.Layout.{headerSize, entrySize, placeAt}
 use Rattle.table.specs.Table.{headerClock}
 use Rattle.table.proofs.Zeros.{Zeros}
 use Rattle.table.proofs.Facts.{SoundFacts, facts-table}
-use Rattle.filter.specs.Call.{legalLength, placesIn}
+use Rattle.filter.specs.Call.{placesIn, tableOf}
 use Rattle.filter.proofs.Free.{zeros-free}
-use Rattle.honest.specs.Connections.{connections}
+use Rattle.rows.specs.Connections.{connections}
+use Rattle.entry.specs.Viewed.{viewed}
 use Rattle.honest.specs.Demand2.{fresh}
-use Rattle.honest.specs.IPv4.{IPv4}
-use Rattle.demands.specs.Bytes.{SoundBytes, viewEntry, viewOf}
-use Rattle.demands.proofs.Entries.{places-viewOf, getD-viewOf}
-use Rattle.demands.proofs.View.{noEntry}
+use Rattle.demands.specs.Bytes.{SoundBytes}
+use Rattle.address.specs.declared.Version.{Version}
 
-abbrev zeroBytes : ℕ → List ℕ
-zeroBytes n = replicate n 0
+module _ (v : Version) where
+  abbrev zeroBytes : ℕ → List ℕ
+  zeroBytes n = replicate n 0
 
-length-zeroBytes : (n : ℕ) → length (zeroBytes n) ≡ n
-length-zeroBytes n = length-replicate {A = ℕ} n 0
+  length-zeroBytes : (n : ℕ) → length (zeroBytes n) ≡ n
+  length-zeroBytes n = length-replicate {A = ℕ} n 0
 
-getD-zeroBytes : (n i : ℕ) → getD (zeroBytes n) i 0 ≡ 0
-getD-zeroBytes n i = ⊎-elim within past (lt-or-ge i n)
-  where
-    within : i < n → getD (zeroBytes n) i 0 ≡ 0
-    within h = getD-replicate n i 0 0 h
+  getD-zeroBytes : (n i : ℕ) → getD (zeroBytes n) i 0 ≡ 0
+  getD-zeroBytes n i = ⊎-elim within past (lt-or-ge i n)
+    where
+      within : i < n → getD (zeroBytes n) i 0 ≡ 0
+      within h = getD-replicate n i 0 0 h
 
-    past : n ≤ i → getD (zeroBytes n) i 0 ≡ 0
-    past h = List·getD-eq-default (zeroBytes n) 0 (rw (length-zeroBytes n) h)
+      past : n ≤ i → getD (zeroBytes n) i 0 ≡ 0
+      past h = List·getD-eq-default (zeroBytes n) 0 (rw (length-zeroBytes n) h)
 
-all-zeros : (n at k : ℕ) → Zeros (zeroBytes n) at k
-all-zeros n at k i h = getD-zeroBytes n (at + i)
+  -- a table with n places, and its bytes but for the mark
+  module _ (n : ℕ) where
+    abbrev made : List ℕ
+    made = freshBytes v n
 
-zero-clock : (n : ℕ) → headerClock (zeroBytes n) ≡ 0
-unfolding headerClock bigEndian number
-zero-clock n = bigEndian-agree (zeroBytes n) 0 [] 0 8 (all-zeros n 0 8)
+    fits : 62 + length (headerMark v ∷ []) ≤ length (zeroBytes (placeAt v n))
+    fits = rw (length-zeroBytes (placeAt v n)) (omega (arith, header-first v n))
 
-fresh-places : (n : ℕ) → placesIn (zeroBytes (placeAt n)) ≡ n
-fresh-places n = rw (length-zeroBytes (placeAt n)) (omega arith)
+    length-made-bytes : length made ≡ placeAt v n
+    length-made-bytes = length-overwrite (zeroBytes (placeAt v n)) 62 (headerMark v ∷ []) fits ∙ length-zeroBytes (placeAt v n)
 
-fresh-legal : (n : ℕ) → 1 ≤ n → n ≤ 512 → legalLength (placeAt n) ≡ true
-unfolding legalLength
-fresh-legal n some most =
-    let whole : (placeAt n - headerSize) % entrySize ≡ 0 = omega arith in
-    rw (eq-eqb ((placeAt n - headerSize) % entrySize) 0 whole, le-leb (placeAt 1) (placeAt n) (omega arith))
-    (le-leb (placeAt n) (placeAt 512) (omega arith))
+    zero-before : (i : ℕ) → i < 62 → getD made i 0 ≡ 0
+    zero-before i h = getD-overwrite-before (zeroBytes (placeAt v n)) 62 (headerMark v ∷ []) fits i h ∙ getD-zeroBytes (placeAt v n) i
 
-fresh-facts : (n k : ℕ) → SoundFacts (zeroBytes n) k
-fresh-facts n k = record {
-  clock = rw (zero-clock n) (omega arith);
-  header = all-zeros n 8 56;
-  places = λ p h. inl (all-zeros n (placeAt p) entrySize);
-}
+    zero-after : (i : ℕ) → 63 ≤ i → getD made i 0 ≡ 0
+    zero-after i h = getD-overwrite-after (zeroBytes (placeAt v n)) 62 (headerMark v ∷ []) fits i h ∙ getD-zeroBytes (placeAt v n) i
 
-pub fresh-bytes-sound : (n : ℕ) → 1 ≤ n → n ≤ 512 → SoundBytes (replicate (placeAt n) 0)
-fresh-bytes-sound n some most = record {
-  octets = λ i. rw (getD-zeroBytes (placeAt n) i) (omega arith);
-  legal = rw (length-zeroBytes (placeAt n)) (fresh-legal n some most);
-  sound = facts-table (zeroBytes (placeAt n)) _ (fresh-facts (placeAt n) _);
-}
+    marked : getD made 62 0 ≡ headerMark v
+    marked = getD-overwrite (zeroBytes (placeAt v n)) 62 (headerMark v ∷ []) fits 0 (omega arith)
 
-fresh-entry : (n p : ℕ) → p < n → getD (viewOf (zeroBytes (placeAt n)) .entries) p noEntry ≡ getD (replicate n noEntry) p noEntry
-fresh-entry n p h =
-    getD-viewOf (zeroBytes (placeAt n)) p noEntry (rw (fresh-places n) h)
-    ∙ ap viewEntry (zeros-free (zeroBytes (placeAt n)) (placeAt p) (all-zeros (placeAt n) (placeAt p) entrySize))
-    ∙ sym (getD-replicate n p noEntry noEntry h)
+    made-octets : Octets made
+    made-octets =
+        octets-overwrite (zeroBytes (placeAt v n)) 62 (headerMark v ∷ []) (λ i. rw (getD-zeroBytes (placeAt v n) i) (omega arith))
+        (bytes-∷ (omega (arith, mark-most v)) bytes-[] .small)
 
-fresh-entries : (n : ℕ) → viewOf (zeroBytes (placeAt n)) .entries ≡ replicate n noEntry
-fresh-entries n =
-    let size = places-viewOf (zeroBytes (placeAt n)) ∙ fresh-places n in
-    ext-getD noEntry _ _ (size ∙ sym (length-replicate n noEntry)) (λ p h. fresh-entry n p (rw size at h))
+    place-zeros : (p : ℕ) → Zeros made (placeAt v p) (entrySize v)
+    place-zeros p i h = zero-after (placeAt v p + i) (omega (arith, header-first v p))
 
-pub fresh-bytes-view : (n : ℕ) → viewOf (replicate (placeAt n) 0) ≡ fresh IPv4 connections n
-fresh-bytes-view n =
-    let clock = zero-clock (placeAt n) in
-    let entries = fresh-entries n in
-    λ i. record { clock = clock i; entries = entries i }
+    zero-clock : headerClock made ≡ 0
+    unfolding headerClock bigEndian number
+    zero-clock = bigEndian-agree made 0 [] 0 8 (λ i h. zero-before (0 + i) (omega arith))
+
+    fresh-places : placesIn v made ≡ n
+    fresh-places = rw length-made-bytes (places-made v n)
+
+    fresh-facts : (k : ℕ) → SoundFacts v made k
+    fresh-facts k = record {
+      clock = rw zero-clock (omega arith);
+      header = λ i h. zero-before (8 + i) (omega arith);
+      mark = marked;
+      header-end = zero-after 63 (omega arith);
+      places = λ p h. inl (place-zeros p);
+    }
+
+    pub fresh-bytes-sound : 1 ≤ n → n ≤ 512 → SoundBytes v (freshBytes v n)
+    fresh-bytes-sound some most = record {
+      octets = made-octets;
+      legal = rw length-made-bytes (length-made v n some most);
+      sound = facts-table v made _ (fresh-facts _);
+    }
+
+    pub fresh-bytes-view : tableOf v (freshBytes v n) ≡ fresh connections n
+    fresh-bytes-view =
+        let clock = zero-clock in
+        let places = fresh-places in
+        λ i. record { clock = clock i; places = places i; entry = λ p. viewed (zeros-free v made (placeAt v p) (place-zeros p) i) }

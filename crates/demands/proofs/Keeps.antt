@@ -1,129 +1,94 @@
--- The machine on bytes keeps to the filter without bytes.
+-- The machine on bytes keeps to rows 11 to 15 and 0 on the table that the bytes are.
 use Prim.Native.Nat.{ℕ, _^_, _<_}
 use mathlib.Core.Path.{_≡_, refl, sym, ap, _∙_}
 use mathlib.Core.Logic.{_⊎_, inl, inr, ⊎-elim}
 use mathlib.Core.Bool.{true}
 use mathlib.Core.List.{List}
 use native.Mathlib.Omega.{arith}
-use lib.ListN.{length, set, length-set}
-use lib.Seq.{getD-set-same}
 use Rattle.connection.specs.Sound.{soundConnection}
+use Rattle.rows.specs.Rows.{Ask, Entry, Outcome, Blocked, Passed, clockUsed, filter, after}
+use Rattle.rows.specs.Connections.{connections}
+use Rattle.address.specs.Address.{FitsFlow}
+use Rattle.address.specs.declared.Version.{Version}
 use Rattle.entry.specs.Typed.{Typed}
-use Rattle.entry.specs.declared.Entry.{Entry}
-use Rattle.filter.specs.Call.{placesIn, freeEntry, outcomeOf, replyOf, tableAfter}
-use Rattle.filter.specs.Outcome.{Outcome}
-use Rattle.filter.proofs.Free.{typed-free}
+use Rattle.entry.specs.Viewed.{stored}
+use Rattle.entry.proofs.Octets.{typed-entryAt}
+use Rattle.filter.specs.Call.{tableOf, outcomeOf, replyOf, tableAfter}
+use Rattle.filter.proofs.Free.{freeEntry, typed-free}
 use Rattle.filter.proofs.Rows.{sound-table-clock}
-use Rattle.honest.specs.Rows as rows
-use Rattle.honest.specs.Connections.{connections, SoundTable}
-use Rattle.honest.specs.Typed as connection
 use Rattle.honest.specs.Machine.{Reading, refused, asks, apart, KeepsTo}
-use Rattle.honest.specs.IPv4.{IPv4}
-use Rattle.honest.proofs.SoundKept.{filter-sound}
-use Rattle.demands.specs.Bytes.{BytesCall, SoundBytes, viewEntry, viewOf, readingOf, bytesMachine}
-use Rattle.demands.proofs.Entries.{places-viewOf}
+use Rattle.history.specs.History.{Placeable}
+use Rattle.history.proofs.Places.{readable-placeable}
+use Rattle.honest.proofs.SoundKept.{Left, LeftBy, filter-left}
+use Rattle.demands.specs.Bytes.{BytesCall, SoundBytes, readingOf, bytesMachine}
 use Rattle.demands.proofs.View.{view-after}
 use Rattle.demands.proofs.Sound.{sound-view, typed-view}
 use Rattle.demands.proofs.SoundAfter.{sound-after}
 use Rattle.demands.proofs.Typed.{typed-entry}
-use Rattle.demands.proofs.Reading.{never-apart, asked-side, asked-clock, asks-placeable, reading-refused}
-use Rattle.demands.proofs.Outcome.{EndpointsFrom, Same, refuses, passes, call-same, outcome-blocked-keeps}
-use Rattle.demands.proofs.Endpoints.{asks-fits, left-fits}
+use Rattle.demands.proofs.Reading.{never-apart, asks-brought, refused-holds, asks-outcome, refused-outcome}
 
--- The clock used
+-- every answer but a pass changes no byte
+blocked-keeps : (v : Version) (t : List ℕ) (o : Outcome connections) → (replyOf o .answer ≡ 0 → ⊥) → tableAfter v t o ≡ t
+blocked-keeps v t (Blocked n) blocked = refl
+blocked-keeps v t (Passed p now e) blocked = absurd (blocked refl)
 
-used-small :
-    (t : List ℕ) (q : BytesCall) (a : rows.Ask IPv4) → SoundBytes t → readingOf q ≡ asks a →
-    rows.clockUsed IPv4 connections (viewOf t) a < 2 ^ 48
-used-small t q a s is = omega (arith, sound-table-clock t _ (s .sound), asked-clock q a is)
+asks-placeable : (v : Version) (q : BytesCall) (a : Ask) → readingOf v q ≡ asks a → Placeable (a .segment)
+asks-placeable v q a is = readable-placeable (a .segment) (asks-brought v q a is .segment)
 
--- The entry that a pass leaves
+module _ (v : Version) (t : List ℕ) (q : BytesCall) (a : Ask) (s : SoundBytes v t) (asked : readingOf v q ≡ asks a) where
+  used-small : clockUsed connections (tableOf v t) a < 2 ^ 48
+  used-small = omega (arith, sound-table-clock v t _ (s .sound), asks-brought v q a asked .clock)
 
-view-free : (e : Entry) → viewEntry e ≡ rows.freeEntry IPv4 connections → e ≡ freeEntry
-view-free e is = λ i. record {
-  opener = record { address = is i .key .source; port = is i .key .sourcePort };
-  answerer = record { address = is i .key .destination; port = is i .key .destinationPort };
-  connection = is i .connection;
-}
+  -- the entry that a pass leaves is free or sound, and its numbers fit their bytes
+  module _ (p now : ℕ) (e : Entry connections) (left : Left (tableOf v t) a p now e) where
+    now-small : now < 2 ^ 48
+    now-small = omega (arith, left .clock, used-small)
 
-module _ (clock : ℕ) (l : List (rows.Entry IPv4 connections)) (p : ℕ) (x : rows.Entry IPv4 connections) (inside : p < length l) where
-  new-inside : p < length (set l p x)
-  new-inside = rw (length-set l p x) inside
+    entry-sound : (stored e ≡ freeEntry) ⊎ (soundConnection now (e .connection) ≡ true)
+    entry-sound = ⊎-elim (λ free. inl (ap stored free)) (λ sound. inr sound) (left .sound .sound)
 
-  new-sound :
-      SoundTable IPv4 (record { clock = clock; entries = set l p x }) →
-      (x ≡ rows.freeEntry IPv4 connections) ⊎ (soundConnection clock (x .connection) ≡ true)
-  new-sound sound = rw (getD-set-same l p x (rows.freeEntry IPv4 connections) inside) at (sound p new-inside)
+    entry-typed : Typed v (stored e)
+    entry-typed =
+        let fits = left .key (FitsFlow v) (typed-free v .key) (asks-brought v q a asked .key) (typed-entryAt v t _ (s .octets) .key) in
+        ⊎-elim (λ free. rw free (typed-free v)) (λ sound. typed-entry v now (stored e) sound now-small (left .sound .typed) fits) entry-sound
 
-  new-typed : connection.TypedTable IPv4 (record { clock = clock; entries = set l p x }) → connection.Typed (x .connection)
-  new-typed typed = rw (getD-set-same l p x (rows.freeEntry IPv4 connections) inside) at (typed p new-inside)
+  left-view : (o : Outcome connections) → LeftBy (tableOf v t) a o → tableOf v (tableAfter v t o) ≡ after connections (tableOf v t) o
+  left-view (Blocked n) left = refl
+  left-view (Passed p now e) left = view-after v t p now e (left .inside) (now-small p now e left) (entry-typed p now e left)
 
--- Answers and places
+  left-sound : (o : Outcome connections) → LeftBy (tableOf v t) a o → SoundBytes v (tableAfter v t o)
+  left-sound (Blocked n) left = s
+  left-sound (Passed p now e) left =
+      sound-after v t p now (stored e) s (left .inside) (now-small p now e left) (omega (arith, left .clock)) (entry-typed p now e left) (entry-sound p now e left)
 
-same-answer :
-    (t : List ℕ) (a : rows.Ask IPv4) (o : Outcome) → Same t a o →
-    replyOf o .answer ≡ rows.filter IPv4 connections (viewOf t) a .answer
-same-answer t a o (refuses n is _ reply) = rw (is, reply)
-same-answer t a o (passes p now e is _ _ reply _) = rw (is, reply)
+  left-by : LeftBy (tableOf v t) a (filter connections (tableOf v t) a)
+  left-by = filter-left (tableOf v t) a (sound-view v t s) (typed-view v t s) (asks-brought v q a asked .side) (asks-placeable v q a asked)
 
-same-place :
-    (t : List ℕ) (a : rows.Ask IPv4) (o : Outcome) → Same t a o →
-    replyOf o .place ≡ rows.filter IPv4 connections (viewOf t) a .place
-same-place t a o (refuses n is _ reply) = rw (is, reply)
-same-place t a o (passes p now e is _ _ reply _) = rw (is, reply)
+  asks-left : tableOf v (tableAfter v t (outcomeOf v (q .side) (q .clock) t (q .packet))) ≡ after connections (tableOf v t) (filter connections (tableOf v t) a)
+  asks-left = rw (asks-outcome v q t s a asked) (left-view (filter connections (tableOf v t) a) left-by)
 
-module _ (t : List ℕ) (q : BytesCall) (a : rows.Ask IPv4) (s : SoundBytes t) (asked : readingOf q ≡ asks a) where
-  abbrev used : ℕ
-  used = rows.clockUsed IPv4 connections (viewOf t) a
+  asks-sound : SoundBytes v (tableAfter v t (outcomeOf v (q .side) (q .clock) t (q .packet)))
+  asks-sound = rw (asks-outcome v q t s a asked) (left-sound (filter connections (tableOf v t) a) left-by)
 
-  module _ (p : ℕ) (e : Entry) (inside : p < placesIn t) (reply : rows.filter IPv4 connections (viewOf t) a ≡ rows.pass IPv4 connections (viewOf t) a p (viewEntry e)) where
-    place-inside : p < length (viewOf t .entries)
-    place-inside = omega (arith, places-viewOf t, inside)
-
-    left-sound : SoundTable IPv4 (record { clock = used; entries = set (viewOf t .entries) p (viewEntry e) }) × connection.TypedTable IPv4 (record { clock = used; entries = set (viewOf t .entries) p (viewEntry e) })
-    left-sound = rw reply at (filter-sound IPv4 (viewOf t) a (sound-view s) (typed-view s) (asked-side q a asked) (asks-placeable q a asked))
-
-    -- the entry that a pass leaves is free or sound
-    entry-sound : (e ≡ freeEntry) ⊎ (soundConnection used (e .connection) ≡ true)
-    entry-sound = ⊎-elim (λ free. inl (view-free e free)) (λ sound. inr sound) (new-sound used (viewOf t .entries) p (viewEntry e) place-inside (left-sound .0))
-
-    -- and its numbers fit their bytes
-    entry-typed : EndpointsFrom t (a .key) p e → Typed e
-    entry-typed from =
-        let fits = left-fits t (a .key) p e (s .octets) (asks-fits q a asked) from in
-        ⊎-elim (λ free. rw free typed-free)
-        (λ sound. typed-entry used e sound (used-small t q a s asked) (new-typed used (viewOf t .entries) p (viewEntry e) place-inside (left-sound .1)) fits)
-        entry-sound
-
-  same-left : (o : Outcome) → Same t a o → viewOf (tableAfter t o) ≡ rows.filter IPv4 connections (viewOf t) a .table
-  same-left o (refuses n is _ reply) = rw (is, reply)
-  same-left o (passes p now e is inside clock reply from) =
-      rw (is, clock, reply) (view-after t p used e inside (used-small t q a s asked) (entry-typed p e inside reply from))
-
-  same-sound : (o : Outcome) → Same t a o → SoundBytes (tableAfter t o)
-  same-sound o (refuses n is _ reply) = rw is s
-  same-sound o (passes p now e is inside clock reply from) =
-      rw (is, clock) (sound-after t p used e s inside (used-small t q a s asked) (omega arith) (entry-typed p e inside reply from) (entry-sound p e inside reply))
-
-sound-kept : (t : List ℕ) (q : BytesCall) → SoundBytes t → SoundBytes (tableAfter t (outcomeOf (q .side) (q .clock) t (q .packet)))
-sound-kept t q s = go (readingOf q) refl
+sound-kept : (v : Version) (t : List ℕ) (q : BytesCall) → SoundBytes v t → SoundBytes v (tableAfter v t (outcomeOf v (q .side) (q .clock) t (q .packet)))
+sound-kept v t q s = go (readingOf v q) refl
   where
-    go : (r : Reading (rows.Ask IPv4)) → readingOf q ≡ r → SoundBytes (tableAfter t (outcomeOf (q .side) (q .clock) t (q .packet)))
-    go (refused n p) is = rw (reading-refused q n p is .outcome t s) s
-    go (asks a) is = same-sound t q a s is _ (call-same t q a s is)
-    go apart is = absurd (never-apart q is)
+    go : (r : Reading Ask) → readingOf v q ≡ r → SoundBytes v (tableAfter v t (outcomeOf v (q .side) (q .clock) t (q .packet)))
+    go (refused n) is = rw (refused-outcome v q t s n is) s
+    go (asks a) is = asks-sound v t q a s is
+    go apart is = absurd (never-apart v q is)
 
-pub bytes-keep : KeepsTo IPv4 bytesMachine SoundBytes
-bytes-keep = record {
-  refusal-answered = λ t q n p s is. ap (λ o. replyOf o .answer) (reading-refused q n p is .outcome t s);
-  refusal-placed = λ t q n p s is. ap (λ o. replyOf o .place) (reading-refused q n p is .outcome t s) ∙ sym (reading-refused q n p is .place);
-  refusal-blocks = λ q n p is. reading-refused q n p is .blocks;
-  answered = λ t q a s is. same-answer t a _ (call-same t q a s is);
-  placed = λ t q a s is. same-place t a _ (call-same t q a s is);
-  left = λ t q a s is. same-left t q a s is _ (call-same t q a s is);
-  well-formed = λ q a is. asks-placeable q a is;
-  blocked-keeps = λ t q blocked. ap viewOf (outcome-blocked-keeps t (outcomeOf (q .side) (q .clock) t (q .packet)) blocked);
-  apart-keeps = λ t q s is. absurd (never-apart q is);
-  sound-table = λ t s. sound-view s;
-  sound-kept = λ t q s. sound-kept t q s;
+pub bytes-keep : (v : Version) → KeepsTo (bytesMachine v) (SoundBytes v)
+bytes-keep v = record {
+  refusal-answered = λ t q n s is. ap (λ o. replyOf o .answer) (refused-outcome v q t s n is);
+  refusal-placed = λ t q n s is. ap (λ o. replyOf o .place) (refused-outcome v q t s n is);
+  refusal-blocks = λ q n is zero. omega (arith, refused-holds v q n is);
+  answered = λ t q a s is. ap (λ o. replyOf o .answer) (asks-outcome v q t s a is);
+  placed = λ t q a s is. ap (λ o. replyOf o .place) (asks-outcome v q t s a is);
+  left = λ t q a s is. asks-left v t q a s is;
+  well-formed = λ q a is. asks-placeable v q a is;
+  blocked-keeps = λ t q blocked. ap (tableOf v) (blocked-keeps v t (outcomeOf v (q .side) (q .clock) t (q .packet)) blocked);
+  apart-keeps = λ t q s is. absurd (never-apart v q is);
+  sound-view = λ t s. sound-view v t s;
+  sound-kept = λ t q s. sound-kept v t q s;
 }

@@ -1,14 +1,11 @@
-pub mod Entries
-pub mod Search
 pub mod Reading
-pub mod Outcome
 pub mod Typed
-pub mod Endpoints
 pub mod Frame
 pub mod View
 pub mod Sound
 pub mod SoundAfter
 pub mod Fresh
+pub mod Encoded
 pub mod Keeps
 pub mod Demand1
 pub mod Demands

@@ -1,11 +1,11 @@
 -- The marked set on bytes: its packets are read as what they were made from, and the call keeps to the filter without bytes.
 use Prim.Native.Nat.{ℕ, _<_}
-use mathlib.Core.Path.{_≡_, refl, sym, ap, _∙_}
+use mathlib.Core.Path.{_≡_, refl, ap, _∙_}
 use mathlib.Core.Logic.{inr}
 use mathlib.Core.Bool.{Bool, true, false}
 use mathlib.Core.List.{List, [], _∷_, map}
 use native.Mathlib.Omega.{arith}
-use lib.ListN.{length, getD, set}
+use lib.ListN.{length}
 use borrow.Author.Tests.{eqb-true}
 use Rattle.choice.specs.Choice.{_=ᵇ_, if_then_else_}
 use Rattle.choice.proofs.Tests.{&&-true}
@@ -13,58 +13,51 @@ use Rattle.serial.specs.Ring.{wrap, ringMinus}
 use Rattle.octets.specs.Digits.{number, digits}
 use Rattle.octets.specs.BigEndian.{bigEndian, octetsOf}
 use Rattle.packet.specs.Sum.{onesPlus, onesSum}
-use Rattle.packet.specs.Read.{readPacket}
+use Rattle.packet.specs.Read.{carried4, rows9to10}
 use Rattle.connection.specs.Sound.{soundFins, soundEnd, soundUnanswered, soundConnection}
-use Rattle.entry.specs.Layout.{placeAt, entryAt}
+use Rattle.rows.specs.Rows as rows
+use Rattle.rows.specs.Rows.{Ask, View, Passed, filter, answerOf, placeBy}
+use Rattle.rows.specs.Connections.{connections}
+use Rattle.address.specs.declared.Version.the-variants.{V4}
 use Rattle.entry.specs.Typed.{Typed}
+use Rattle.entry.specs.Viewed.{stored}
 use Rattle.table.specs.Table.{headerClock}
-use Rattle.filter.specs.Call.{placesIn, withEntry}
-use Rattle.filter.proofs.Rows.{legal-length-bounds}
-use Rattle.honest.specs.Rows.{Ask, Entry, Table, Reply, filter}
-use Rattle.honest.specs.Connections.{connections}
+use Rattle.filter.specs.Call.{placesIn, tableOf, tableAfter}
+use Rattle.filter.proofs.Rows.{inside-places, legal-length-bounds}
+use Rattle.entry.proofs.Places.{next-place}
 use Rattle.honest.specs.Machine.{asks}
-use Rattle.honest.specs.IPv4.{IPv4}
 use Rattle.honest.specs.Marked.{after, empty, packet1, packet2, opened, stateK, entry11, state11, Name, example, C, Case, markedSet, isLeft, holds, allHold}
 use Rattle.honest.proofs.Marked.{marked}
-use Rattle.demands.specs.Bytes.{SoundBytes, viewEntry, viewOf, readingOf}
+use Rattle.demands.specs.Bytes.{SoundBytes, readingOf}
 use Rattle.demands.specs.Packets.{fieldOctets, octetsIn, checksum, payloadOf, ipHeader, tcpHeader, pseudoHeader, packetOf, bytesCall}
-use Rattle.demands.specs.Marked.{saidTo, emptyBytes, openedBytes, stateKBytes, bytesEntry11, state11Bytes, bytesBefore, OnBytes, AllOnBytes}
-use Rattle.demands.proofs.Entries.{getD-viewOf}
-use Rattle.demands.proofs.View.{noEntry, view-after}
+use Rattle.demands.specs.Marked.{saidTo, emptyBytes, openedBytes, stateKBytes, state11Bytes, bytesBefore, OnBytes, AllOnBytes}
+use Rattle.demands.proofs.View.{view-after}
 use Rattle.demands.proofs.SoundAfter.{sound-after}
 use Rattle.demands.proofs.Fresh.{fresh-bytes-sound, fresh-bytes-view}
 use Rattle.demands.proofs.Keeps.{bytes-keep}
 
 -- sound bytes that are a table
-abbrev Is : List ℕ → Table IPv4 connections → Type 0
-Is t T = SoundBytes t × (viewOf t ≡ T)
+abbrev Is : List ℕ → View connections → Type 0
+Is t T = SoundBytes V4 t × (tableOf V4 t ≡ T)
 
 -- a call's packet is read as what it was made from
-abbrev Read : Ask IPv4 → Type 0
-Read a = readingOf (bytesCall a) ≡ asks a
+abbrev Read : Ask → Type 0
+Read a = readingOf V4 (bytesCall a) ≡ asks a
 
 -- A case that holds without bytes holds on bytes
 
-module _ (t : List ℕ) (T : Table IPv4 connections) (a : Ask IPv4) (is : Is t T) (read : Read a) where
-  abbrev reply : Reply IPv4 connections
-  reply = filter IPv4 connections T a
+module _ (t : List ℕ) (T : View connections) (a : Ask) (is : Is t T) (read : Read a) where
+  answer-same : saidTo t a .answer ≡ answerOf connections (filter connections T a)
+  answer-same = bytes-keep V4 .answered t (bytesCall a) a (is .0) read ∙ ap (λ u. answerOf connections (filter connections u a)) (is .1)
 
-  answer-same : saidTo t a .answer ≡ reply .answer
-  answer-same = bytes-keep .answered t (bytesCall a) a (is .0) read ∙ ap (λ u. filter IPv4 connections u a .answer) (is .1)
-
-  place-same : saidTo t a .place ≡ reply .place
-  place-same = bytes-keep .placed t (bytesCall a) a (is .0) read ∙ ap (λ u. filter IPv4 connections u a .place) (is .1)
+  place-same : saidTo t a .place ≡ placeBy (λ p. p) (filter connections T a)
+  place-same = bytes-keep V4 .placed t (bytesCall a) a (is .0) read ∙ ap (λ u. placeBy (λ p. p) (filter connections u a)) (is .1)
 
   next-is : Is (saidTo t a .next) (after T a)
-  next-is = (bytes-keep .sound-kept t (bytesCall a) (is .0), bytes-keep .left t (bytesCall a) a (is .0) read ∙ ap (λ u. after u a) (is .1))
+  next-is = (bytes-keep V4 .sound-kept t (bytesCall a) (is .0), bytes-keep V4 .left t (bytesCall a) a (is .0) read ∙ ap (λ u. after u a) (is .1))
 
-some-place : (t : List ℕ) → SoundBytes t → 0 < placesIn t
-some-place t s = omega (arith, legal-length-bounds (length t) (s .legal) .0)
-
--- what the bytes have at place 0 is the table's first entry
-first-entry : (t : List ℕ) (T : Table IPv4 connections) → Is t T → getD (T .entries) 0 noEntry ≡ viewEntry (entryAt t (placeAt 0))
-first-entry t T is =
-    ap (λ (u : Table IPv4 connections). getD (u .entries) 0 noEntry) (sym (is .1)) ∙ getD-viewOf t 0 noEntry (some-place t (is .0))
+some-place : (t : List ℕ) → SoundBytes V4 t → 0 < placesIn V4 t
+some-place t s = inside-places V4 (length t) 0 (omega (arith, legal-length-bounds V4 (length t) (s .legal) .0, next-place V4 0))
 
 holds-on-bytes : (c : Case) (t : List ℕ) → Is t (c .table) → Read (c .call) → holds c ≡ true → OnBytes c t
 holds-on-bytes c t is read hold =
@@ -77,25 +70,25 @@ holds-on-bytes c t is read hold =
       reads = read;
       answer = answer-same t (c .table) (c .call) is read ∙ eqb-true _ _ (answer .0);
       place = place-same t (c .table) (c .call) is read ∙ eqb-true _ _ (place .0);
-      left = ap (λ (e : Entry IPv4 connections). isLeft (c .left) (e .connection .ends)) (sym (first-entry _ _ next)) ∙ place .1;
+      left = ap (λ (u : View connections). isLeft (c .left) (u .entry 0 .connection .ends)) (next .1) ∙ place .1;
     }
 
 -- The packets
 
 -- all of a list's
 abbrev IsRead : List Case → Type 0
-IsRead l = map (λ (c : Case). readingOf (bytesCall (c .call))) l ≡ map (λ (c : Case). asks (c .call)) l
+IsRead l = map (λ (c : Case). readingOf V4 (bytesCall (c .call))) l ≡ map (λ (c : Case). asks (c .call)) l
 
 -- by computation, C11's 65,535 bytes among them
 all-read : Read packet1 × Read packet2 × IsRead markedSet
-unfolding if_then_else_ wrap number digits bigEndian octetsOf onesPlus onesSum readPacket readingOf fieldOctets octetsIn checksum payloadOf ipHeader tcpHeader pseudoHeader packetOf
+unfolding if_then_else_ wrap number digits bigEndian octetsOf onesPlus onesSum carried4 rows9to10 readingOf fieldOctets octetsIn checksum payloadOf ipHeader tcpHeader pseudoHeader packetOf
 all-read = (refl, refl, refl)
 
 -- The tables
 
 empty-is : Is emptyBytes empty
 unfolding emptyBytes
-empty-is = (fresh-bytes-sound 64 (omega arith) (omega arith), fresh-bytes-view 64)
+empty-is = (fresh-bytes-sound V4 64 (omega arith) (omega arith), fresh-bytes-view V4 64)
 
 opened-is : Is openedBytes opened
 unfolding openedBytes
@@ -105,32 +98,28 @@ stateK-is : Is stateKBytes stateK
 unfolding stateKBytes
 stateK-is = next-is openedBytes opened packet2 opened-is (all-read .1)
 
-typed11 : Typed bytesEntry11
+typed11 : Typed V4 (stored entry11)
 typed11 = record {
   stage = omega arith;
   side = omega arith;
   fins = omega arith;
-  opener-address = omega arith;
-  answerer-address = omega arith;
-  opener-port = omega arith;
-  answerer-port = omega arith;
+  key = record { from-address = (refl, omega arith); to-address = (refl, omega arith); from-port = omega arith; to-port = omega arith };
   deadline = omega arith;
   two-ends = refl;
   opener = record { end = omega arith; edge = omega arith; win = omega arith };
   answerer = record { end = omega arith; edge = omega arith; win = omega arith };
 }
 
-sound11 : soundConnection 0 (bytesEntry11 .connection) ≡ true
+sound11 : soundConnection 0 (entry11 .connection) ≡ true
 unfolding if_then_else_ ringMinus soundFins soundEnd soundUnanswered soundConnection
 sound11 = refl
 
 -- over any bytes that are the empty table, so that no 4,160 bytes are computed
-written11-is : (t : List ℕ) → Is t empty → Is (withEntry t 0 0 bytesEntry11) state11
+written11-is : (t : List ℕ) → Is t empty → Is (tableAfter V4 t (Passed 0 0 entry11)) state11
 written11-is t is =
-    let zero-clock : headerClock t ≡ 0 = ap (λ (u : Table IPv4 connections). u .clock) (is .1) in
-    let entries = ap (λ (u : Table IPv4 connections). set (u .entries) 0 entry11) (is .1) in (
-      sound-after t 0 0 bytesEntry11 (is .0) (some-place t (is .0)) (omega arith) (omega arith) typed11 (inr sound11),
-      view-after t 0 0 bytesEntry11 (some-place t (is .0)) (omega arith) typed11 ∙ (λ i. record { clock = 0; entries = entries i }),
+    let zero-clock : headerClock t ≡ 0 = ap (λ (u : View connections). u .clock) (is .1) in (
+      sound-after V4 t 0 0 (stored entry11) (is .0) (some-place t (is .0)) (omega arith) (omega arith) typed11 (inr sound11),
+      view-after V4 t 0 0 entry11 (some-place t (is .0)) (omega arith) typed11 ∙ ap (λ u. rows.after connections u (Passed 0 0 entry11)) (is .1),
     )
 
 state11-is : Is state11Bytes state11
@@ -138,11 +127,11 @@ unfolding state11Bytes
 state11-is = written11-is emptyBytes empty-is
 
 -- by a case's name, as `bytesBefore`
-abbrev tableBefore : Name → Table IPv4 connections
+abbrev tableBefore : Name → View connections
 tableBefore (example n) = if n =ᵇ 1 then empty else if n =ᵇ 2 then opened else stateK
 tableBefore (C n) = if n =ᵇ 11 then state11 else if n =ᵇ 12 then opened else stateK
 
-either-is : (b : Bool) {t u : List ℕ} {T U : Table IPv4 connections} → Is t T → Is u U → Is (if b then t else u) (if b then T else U)
+either-is : (b : Bool) {t u : List ℕ} {T U : View connections} → Is t T → Is u U → Is (if b then t else u) (if b then T else U)
 unfolding if_then_else_
 either-is true first second = first
 either-is false first second = second

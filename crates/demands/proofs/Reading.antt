@@ -1,143 +1,97 @@
--- What a call reads: refused with the number that the call on bytes gives, or asked, with a segment that a packet can carry.
+-- What a call reads, what a reading holds, and that the call on a sound table comes to it.
 use Prim.Native.Nat.{ℕ, _^_, _≤_, _<_}
 use mathlib.Core.Path.{_≡_, refl, sym, ap, _∙_}
-use mathlib.Core.Logic.{_⊎_, inl, inr}
-use mathlib.Core.Bool.{Bool, true, false, not}
+use mathlib.Core.Bool.{not}
 use mathlib.Core.List.{List}
 use native.Mathlib.Omega.{arith}
 use borrow.Author.Tests.{leb-true, leb-false, not-false}
-use Rattle.choice.specs.Choice.{if_then_else_, _≤ᵇ_}
-use Rattle.choice.proofs.Choice.{if-true, if-false, if-either}
-use Rattle.choice.proofs.Tests.{true-or-false, false-true}
+use Rattle.choice.proofs.Choice.{if-false, if-ap, if-else, if-cases}
+use Rattle.octets.specs.Octets.{Octets}
+use Rattle.address.specs.Address.{FitsFlow}
+use Rattle.address.specs.declared.Version.{Version}
+use Rattle.address.specs.declared.Flow.{Flow}
+use Rattle.address.proofs.Laws.{fits-flowAt}
 use Rattle.segment.specs.Readable.{Readable}
 use Rattle.segment.specs.declared.Segment.{Segment}
-use Rattle.packet.specs.Read.{readPacket, causeNumber}
-use Rattle.packet.specs.declared.Flow.{Flow}
+use Rattle.packet.specs.Read.{readPacket, sourceAt}
 use Rattle.packet.specs.declared.PacketRead.{PacketRead}
 use Rattle.packet.specs.declared.PacketRead.the-variants.{Refused, Tcp}
 use Rattle.packet.proofs.Causes.{cause-5-to-10}
-use Rattle.packet.proofs.Readable.{read-readable}
-use Rattle.history.specs.History.{Placeable}
-use Rattle.history.proofs.Places.{readable-placeable}
-use Rattle.filter.specs.Call.{nowhere, clockUsed, onPacket, outcomeOf}
-use Rattle.filter.specs.Outcome.{Blocked}
-use Rattle.honest.specs.Rows as rows
+use Rattle.packet.proofs.Readable.{segment-of, read-readable}
+use Rattle.rows.specs.Rows.{Ask, View, Blocked, filter}
+use Rattle.rows.specs.Connections.{connections}
+use Rattle.filter.specs.Call.{Outcome, tableOf, clockUsed, rows5to10, onPacket, outcomeOf}
 use Rattle.honest.specs.Machine.{Reading, refused, asks, apart}
-use Rattle.honest.specs.IPv4.{IPv4}
-use Rattle.demands.specs.Bytes.{BytesCall, SoundBytes, byPacket, readingOf}
-use Rattle.demands.proofs.Search.{askOf}
+use Rattle.demands.specs.Bytes.{BytesCall, SoundBytes, readingOf}
 
--- The call on a sound table
+-- On a sound table the call comes to its reading
 
--- where 1 to 4 do not apply, the packet decides
+abbrev onReading : View connections → Reading Ask → Outcome
+onReading w (refused n) = Blocked n
+onReading w (asks a) = filter connections w a
+onReading w apart = Blocked 0
+
 pub outcome-read :
-    (side clock : ℕ) (t packet : List ℕ) → not (side ≤ᵇ 1) ≡ false → 2 ^ 48 ≤ᵇ clock ≡ false → SoundBytes t →
-    outcomeOf side clock t packet ≡ onPacket (readPacket packet) t (clockUsed t clock) side
-unfolding outcomeOf
-outcome-read side clock t packet side-fine clock-fine s =
-    if-false _ _ _ side-fine ∙ if-false _ _ _ clock-fine ∙ if-false _ _ _ (ap not (s .legal)) ∙ if-false _ _ _ (ap not (s .sound))
+    (v : Version) (q : BytesCall) (t : List ℕ) → SoundBytes v t →
+    outcomeOf v (q .side) (q .clock) t (q .packet) ≡ onReading (tableOf v t) (readingOf v q)
+unfolding outcomeOf readingOf
+outcome-read v q t s =
+    if-else _ _ (if-else _ _ (if-false _ _ _ (ap not (s .legal)) ∙ if-false _ _ _ (ap not (s .sound)) ∙ by-packet (readPacket v (q .packet))))
+    ∙ sym (if-ap (onReading (tableOf v t)) _ _ _ ∙ if-else _ _ (if-ap (onReading (tableOf v t)) _ _ _))
+  where
+    by-packet :
+        (r : PacketRead) →
+        onPacket r (tableOf v t) (clockUsed t (q .clock)) (q .side)
+        ≡ onReading (tableOf v t) (rows5to10 refused r (λ k g. asks (record { side = q .side; clock = q .clock; key = k; segment = g })))
+    by-packet (Refused cause) = refl
+    by-packet (Tcp k g) = refl
+
+-- What a reading holds
+
+-- an ask that a packet brings
+pub record Brought (v : Version) (a : Ask) : Type 0 where
+  pub side : a .side ≤ 1
+  pub clock : a .clock < 2 ^ 48
+  pub key : FitsFlow v (a .key)
+  pub segment : Readable (a .segment)
 
 -- no call concerns another part of the table: the whole is viewed
-pub never-apart : (q : BytesCall) → readingOf q ≡ apart → ⊥
+abbrev Holds : Version → Reading Ask → Type 0
+Holds v (refused n) = 1 ≤ n
+Holds v (asks a) = Brought v a
+Holds v apart = ⊥
+
+pub reading-holds : (v : Version) (q : BytesCall) → Holds v (readingOf v q)
 unfolding readingOf
-never-apart q =
-    if-either (λ r. r ≡ apart → ⊥) _ _ _ (λ is. false-true cc)
-    (if-either (λ r. r ≡ apart → ⊥) _ _ _ (λ is. false-true cc) (by-read (readPacket (q .packet))))
+reading-holds v q =
+    if-cases (Holds v) _ _ _ (λ _. omega arith) (λ side-fine.
+    if-cases (Holds v) _ _ _ (λ _. omega arith) (λ clock-fine.
+    by-packet (leb-true _ _ (not-false _ side-fine)) (leb-false _ _ clock-fine) (readPacket v (q .packet)) refl))
   where
-    by-read : (r : PacketRead) → byPacket r (q .side) (q .clock) ≡ apart → ⊥
-    by-read (Refused cause) is = false-true cc
-    by-read (Tcp f g) is = false-true cc
+    key-fits : (k : Flow) (g : Segment) → readPacket v (q .packet) ≡ Tcp k g → FitsFlow v k
+    key-fits k g read = let s = segment-of v (q .packet) k g read in rw (s .flow) (fits-flowAt v (q .packet) (sourceAt v) (s .h) (q .octets))
 
--- A call that asks
+    by-packet :
+        q .side ≤ 1 → q .clock < 2 ^ 48 → (r : PacketRead) → readPacket v (q .packet) ≡ r →
+        Holds v (rows5to10 refused r (λ k g. asks (record { side = q .side; clock = q .clock; key = k; segment = g })))
+    by-packet side clock (Refused cause) read = omega (arith, cause-5-to-10 cause .0)
+    by-packet side clock (Tcp k g) read = record { side = side; clock = clock; key = key-fits k g read; segment = read-readable v (q .packet) k g (q .octets) read }
 
--- the packet's flow and segment, and that 1 and 2 do not apply
-pub record Asked (q : BytesCall) (a : rows.Ask IPv4) : Type 0 where
-  pub flow : Flow
-  pub segment : Segment
-  pub packet-read : readPacket (q .packet) ≡ Tcp flow segment
-  pub is : a ≡ askOf (q .side) (q .clock) flow segment
-  pub side-fine : not (q .side ≤ᵇ 1) ≡ false
-  pub clock-fine : 2 ^ 48 ≤ᵇ q .clock ≡ false
+-- By a call's reading
 
-past-refused :
-    {a : rows.Ask IPv4} {rest : Reading (rows.Ask IPv4)} (t : Bool) (n p : ℕ) → (if t then refused n p else rest) ≡ asks a →
-    (t ≡ false) × (rest ≡ asks a)
-unfolding if_then_else_
-past-refused true n p is = false-true cc
-past-refused false n p is = (refl, is)
+module _ (v : Version) (q : BytesCall) where
+  pub never-apart : readingOf v q ≡ apart → ⊥
+  never-apart is = rw is at (reading-holds v q)
 
-pub reading-asks : (q : BytesCall) (a : rows.Ask IPv4) → readingOf q ≡ asks a → Asked q a
-unfolding readingOf
-reading-asks q a is = let row1 = past-refused _ _ _ is in let row2 = past-refused _ _ _ (row1 .1) in go (row1 .0) (row2 .0) _ refl (row2 .1)
-  where
-    go :
-        not (q .side ≤ᵇ 1) ≡ false → 2 ^ 48 ≤ᵇ q .clock ≡ false → (r : PacketRead) → readPacket (q .packet) ≡ r →
-        byPacket r (q .side) (q .clock) ≡ asks a →
-        Asked q a
-    go side-fine clock-fine (Refused cause) read asked = false-true cc
-    go side-fine clock-fine (Tcp f g) read asked = record { flow = f; segment = g; packet-read = read; is = cc; side-fine = side-fine; clock-fine = clock-fine }
+  pub asks-brought : (a : Ask) → readingOf v q ≡ asks a → Brought v a
+  asks-brought a is = rw is at (reading-holds v q)
 
-module _ (q : BytesCall) (a : rows.Ask IPv4) (is : readingOf q ≡ asks a) where
-  pub asks-side : q .side ≤ 1
-  asks-side = leb-true _ _ (not-false _ (reading-asks q a is .side-fine))
+  pub refused-holds : (n : ℕ) → readingOf v q ≡ refused n → 1 ≤ n
+  refused-holds n is = rw is at (reading-holds v q)
 
-  pub asks-clock : q .clock < 2 ^ 48
-  asks-clock = leb-false _ _ (reading-asks q a is .clock-fine)
+  module _ (t : List ℕ) (s : SoundBytes v t) where
+    pub asks-outcome : (a : Ask) → readingOf v q ≡ asks a → outcomeOf v (q .side) (q .clock) t (q .packet) ≡ filter connections (tableOf v t) a
+    asks-outcome a is = outcome-read v q t s ∙ ap (onReading (tableOf v t)) is
 
-  pub asked-side : a .side ≤ 1
-  asked-side = let same : a .side ≡ q .side = ap (λ (b : rows.Ask IPv4). b .side) (reading-asks q a is .is) in omega (arith, asks-side)
-
-  pub asked-clock : a .clock < 2 ^ 48
-  asked-clock = let same : a .clock ≡ q .clock = ap (λ (b : rows.Ask IPv4). b .clock) (reading-asks q a is .is) in omega (arith, asks-clock)
-
-  pub asks-readable : Readable (a .segment)
-  asks-readable =
-      let r = reading-asks q a is in
-      rw (r .is) (read-readable (q .packet) (r .flow) (r .segment) (q .octets) (r .packet-read))
-
-  pub asks-placeable : Placeable (a .segment)
-  asks-placeable = readable-placeable (a .segment) asks-readable
-
--- A call that is refused
-
-pub record Refusal (q : BytesCall) (n p : ℕ) : Type 0 where
-  pub outcome : (t : List ℕ) → SoundBytes t → outcomeOf (q .side) (q .clock) t (q .packet) ≡ Blocked n
-  pub place : p ≡ nowhere
-  pub blocks : n ≡ 0 → ⊥
-
-module _ (q : BytesCall) (n p : ℕ) where
-  refusal :
-      (m : ℕ) → 1 ≤ m → ((t : List ℕ) → SoundBytes t → outcomeOf (q .side) (q .clock) t (q .packet) ≡ Blocked m) →
-      _≡_ {A = Reading (rows.Ask IPv4)} (refused m nowhere) (refused n p) →
-      Refusal q n p
-  refusal m some outcome same =
-      let number : m ≡ n = cc in
-      let place : nowhere ≡ p = cc in
-      record { outcome = λ t s. outcome t s ∙ ap (λ k. Blocked k) number; place = sym place; blocks = λ (z : n ≡ 0). omega arith }
-
-  refused-side : not (q .side ≤ᵇ 1) ≡ true → readingOf q ≡ refused n p → Refusal q n p
-  unfolding readingOf outcomeOf
-  refused-side bad is = refusal 1 (omega arith) (λ t s. if-true _ _ _ bad) (sym (if-true _ _ _ bad) ∙ is)
-
-  refused-clock : not (q .side ≤ᵇ 1) ≡ false → 2 ^ 48 ≤ᵇ q .clock ≡ true → readingOf q ≡ refused n p → Refusal q n p
-  unfolding readingOf outcomeOf
-  refused-clock fine bad is = refusal 2 (omega arith) (λ t s. if-false _ _ _ fine ∙ if-true _ _ _ bad) (sym (if-false _ _ _ fine ∙ if-true _ _ _ bad) ∙ is)
-
-  refused-packet :
-      not (q .side ≤ᵇ 1) ≡ false → 2 ^ 48 ≤ᵇ q .clock ≡ false → (r : PacketRead) → readPacket (q .packet) ≡ r →
-      byPacket r (q .side) (q .clock) ≡ refused n p →
-      Refusal q n p
-  refused-packet side-fine clock-fine (Refused cause) read is =
-      refusal (causeNumber cause) (omega (arith, cause-5-to-10 cause .0)) (λ t s. outcome-read _ _ t _ side-fine clock-fine s ∙ ap (λ r. onPacket r t (clockUsed t (q .clock)) (q .side)) read) is
-  refused-packet side-fine clock-fine (Tcp f g) read is = false-true cc
-
-  pub reading-refused : readingOf q ≡ refused n p → Refusal q n p
-  unfolding readingOf
-  reading-refused is = go (true-or-false (not (q .side ≤ᵇ 1))) (true-or-false (2 ^ 48 ≤ᵇ q .clock))
-    where
-      go :
-          (not (q .side ≤ᵇ 1) ≡ true) ⊎ (not (q .side ≤ᵇ 1) ≡ false) → (2 ^ 48 ≤ᵇ q .clock ≡ true) ⊎ (2 ^ 48 ≤ᵇ q .clock ≡ false) →
-          Refusal q n p
-      go (inl bad) _ = refused-side bad is
-      go (inr fine) (inl bad) = refused-clock fine bad is
-      go (inr fine) (inr clock-fine) = refused-packet fine clock-fine _ refl (sym (if-false _ _ _ fine ∙ if-false _ _ _ clock-fine) ∙ is)
+    pub refused-outcome : (n : ℕ) → readingOf v q ≡ refused n → outcomeOf v (q .side) (q .clock) t (q .packet) ≡ Blocked n
+    refused-outcome n is = outcome-read v q t s ∙ ap (onReading (tableOf v t)) is

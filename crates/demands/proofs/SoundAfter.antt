@@ -22,73 +22,76 @@ use Rattle.entry.proofs.Agree.{entryAt-agree, zeroBytes-agree}
 use Rattle.entry.proofs.Octets.{octets-entryBytes, zeroBytes-entryBytes}
 use Rattle.table.specs.Table.{headerClock}
 use Rattle.table.proofs.Facts.{SoundPlace, SoundFacts, table-facts, facts-table}
-use Rattle.filter.specs.Call.{placesIn, freeEntry, tableAfter}
-use Rattle.filter.specs.Outcome.{Passed}
-use Rattle.filter.proofs.Free.{free-zeros}
+use Rattle.filter.specs.Call.{placesIn, withEntry}
+use Rattle.filter.proofs.Free.{freeEntry, free-zeros}
 use Rattle.demands.specs.Bytes.{SoundBytes}
 use Rattle.demands.proofs.Frame.{length-after, placesIn-after, clock-after, header-after, place-same, place-other, entry-same}
+use Rattle.address.specs.declared.Version.{Version}
 
--- a place with the same bytes stays sound, since the clock only rises
-place-agree :
-    (clock now : ℕ) (l : List ℕ) (at : ℕ) (m : List ℕ) (there : ℕ) → Agree l at m there entrySize → clock ≤ now →
-    SoundPlace clock m there →
-    SoundPlace now l at
-place-agree clock now l at m there same later (inl zeros) = inl (λ i h. same i h ∙ zeros i h)
-place-agree clock now l at m there same later (inr f) =
-    inr (record {
-      zero-bytes = zeroBytes-agree l at m there same (f .zero-bytes);
-      connection = rw (entryAt-agree l at m there same) (later-sound clock now _ later (f .connection));
-    })
+module _ (v : Version) where
+  -- a place with the same bytes stays sound, since the clock only rises
+  place-agree :
+      (clock now : ℕ) (l : List ℕ) (at : ℕ) (m : List ℕ) (there : ℕ) → Agree l at m there (entrySize v) → clock ≤ now →
+      SoundPlace v clock m there →
+      SoundPlace v now l at
+  place-agree clock now l at m there same later (inl zeros) = inl (λ i h. same i h ∙ zeros i h)
+  place-agree clock now l at m there same later (inr f) =
+      inr (record {
+        zero-bytes = zeroBytes-agree v l at m there same (f .zero-bytes);
+        connection = rw (entryAt-agree v l at m there same) (later-sound clock now _ later (f .connection));
+      })
 
--- what stands where an entry was written
-written-sound :
-    (now : ℕ) (e : Entry) (t : List ℕ) (at : ℕ) → Agree t at (entryBytes e) 0 entrySize → entryAt t at ≡ e →
-    (e ≡ freeEntry) ⊎ (soundConnection now (e .connection) ≡ true) →
-    SoundPlace now t at
-written-sound now e t at same back (inl free) = inl (λ i h. (rw free at same) i h ∙ free-zeros i h)
-written-sound now e t at same back (inr sound) =
-    inr (record {
-      zero-bytes = zeroBytes-agree t at (entryBytes e) 0 same (zeroBytes-entryBytes e);
-      connection = ap (λ (x : Entry). soundConnection now (x .connection)) back ∙ sound;
-    })
+  -- what stands where an entry was written
+  written-sound :
+      (now : ℕ) (e : Entry) (t : List ℕ) (at : ℕ) → Agree t at (entryBytes v e) 0 (entrySize v) → entryAt v t at ≡ e →
+      (e ≡ freeEntry) ⊎ (soundConnection now (e .connection) ≡ true) →
+      SoundPlace v now t at
+  written-sound now e t at same back (inl free) = inl (λ i h. (rw free at same) i h ∙ free-zeros v i h)
+  written-sound now e t at same back (inr sound) =
+      inr (record {
+        zero-bytes = zeroBytes-agree v t at (entryBytes v e) 0 same (zeroBytes-entryBytes v e);
+        connection = ap (λ (x : Entry). soundConnection now (x .connection)) back ∙ sound;
+      })
 
-module _ (t : List ℕ) (p now : ℕ) (e : Entry) (s : SoundBytes t) (inside : p < placesIn t) (small : now < 2 ^ 48) (later : headerClock t ≤ now) (typed : Typed e) (new : (e ≡ freeEntry) ⊎ (soundConnection now (e .connection) ≡ true)) where
-  abbrev after : List ℕ
-  after = tableAfter t (Passed p now e)
+  module _ (t : List ℕ) (p now : ℕ) (e : Entry) (s : SoundBytes v t) (inside : p < placesIn v t) (small : now < 2 ^ 48) (later : headerClock t ≤ now) (typed : Typed v e) (new : (e ≡ freeEntry) ⊎ (soundConnection now (e .connection) ≡ true)) where
+    abbrev after : List ℕ
+    after = withEntry v t p now e
 
-  clocked-octets : Octets (overwrite t 0 (octetsOf 8 now))
-  clocked-octets = octets-overwrite t 0 (octetsOf 8 now) (s .octets) (octets-octetsOf 8 now)
+    clocked-octets : Octets (overwrite t 0 (octetsOf 8 now))
+    clocked-octets = octets-overwrite t 0 (octetsOf 8 now) (s .octets) (octets-octetsOf 8 now)
 
-  octets-after : Octets after
-  octets-after =
-      octets-overwrite (overwrite t 0 (octetsOf 8 now)) (placeAt p) (entryBytes e) clocked-octets (octets-entryBytes e typed)
+    octets-after : Octets after
+    octets-after =
+        octets-overwrite (overwrite t 0 (octetsOf 8 now)) (placeAt v p) (entryBytes v e) clocked-octets (octets-entryBytes v e typed)
 
-  place-after : (q : ℕ) → q < placesIn t → SoundPlace now after (placeAt q)
-  place-after q h = by (true-or-false (q =ᵇ p))
-    where
-      by : (q =ᵇ p ≡ true) ⊎ (q =ᵇ p ≡ false) → SoundPlace now after (placeAt q)
-      by (inl same) =
-          rw (eqb-true q p same)
-          (written-sound now e after (placeAt p) (place-same t p now e inside) (entry-same t p now e inside typed) new)
-      by (inr differs) =
-          place-agree (headerClock t) now after (placeAt q) t (placeAt q) (place-other t p now e inside q (eqb-false q p differs)) later
-          (table-facts t (placesIn t) (s .sound) .places q h)
+    place-after : (q : ℕ) → q < placesIn v t → SoundPlace v now after (placeAt v q)
+    place-after q h = by (true-or-false (q =ᵇ p))
+      where
+        by : (q =ᵇ p ≡ true) ⊎ (q =ᵇ p ≡ false) → SoundPlace v now after (placeAt v q)
+        by (inl same) =
+            rw (eqb-true q p same)
+            (written-sound now e after (placeAt v p) (place-same v t p now e inside) (entry-same v t p now e inside typed) new)
+        by (inr differs) =
+            place-agree (headerClock t) now after (placeAt v q) t (placeAt v q) (place-other v t p now e inside q (eqb-false q p differs)) later
+            (table-facts v t (placesIn v t) (s .sound) .places q h)
 
-  facts-after : SoundFacts after (placesIn after)
-  facts-after =
-      let clock : headerClock after ≡ now = clock-after t p now e inside (omega arith) in
-      record {
-        clock = rw clock small;
-        header = λ i h. header-after t p now e inside i h ∙ table-facts t (placesIn t) (s .sound) .header i h;
-        places = λ q h. rw clock (place-after q (rw (placesIn-after t p now e inside) at h));
-      }
+    facts-after : SoundFacts v after (placesIn v after)
+    facts-after =
+        let clock : headerClock after ≡ now = clock-after v t p now e inside (omega arith) in
+        record {
+          clock = rw clock small;
+          header = λ i h. header-after v t p now e inside i (omega arith) ∙ table-facts v t (placesIn v t) (s .sound) .header i h;
+          mark = header-after v t p now e inside 54 (omega arith) ∙ table-facts v t (placesIn v t) (s .sound) .mark;
+          header-end = header-after v t p now e inside 55 (omega arith) ∙ table-facts v t (placesIn v t) (s .sound) .header-end;
+          places = λ q h. rw clock (place-after q (rw (placesIn-after v t p now e inside) at h));
+        }
 
-  bytes-after : SoundBytes after
-  bytes-after = record { octets = octets-after; legal = rw (length-after t p now e inside) (s .legal); sound = facts-table after (placesIn after) facts-after }
+    bytes-after : SoundBytes v after
+    bytes-after = record { octets = octets-after; legal = rw (length-after v t p now e inside) (s .legal); sound = facts-table v after (placesIn v after) facts-after }
 
--- a pass that writes a free entry or a sound one leaves the bytes sound
-pub sound-after :
-    (t : List ℕ) (p now : ℕ) (e : Entry) → SoundBytes t → p < placesIn t → now < 2 ^ 48 → headerClock t ≤ now → Typed e →
-    ((e ≡ freeEntry) ⊎ (soundConnection now (e .connection) ≡ true)) →
-    SoundBytes (tableAfter t (Passed p now e))
-sound-after t p now e s inside small later typed new = bytes-after t p now e s inside small later typed new
+  -- a pass that writes a free entry or a sound one leaves the bytes sound
+  pub sound-after :
+      (t : List ℕ) (p now : ℕ) (e : Entry) → SoundBytes v t → p < placesIn v t → now < 2 ^ 48 → headerClock t ≤ now → Typed v e →
+      ((e ≡ freeEntry) ⊎ (soundConnection now (e .connection) ≡ true)) →
+      SoundBytes v (withEntry v t p now e)
+  sound-after t p now e s inside small later typed new = bytes-after t p now e s inside small later typed new

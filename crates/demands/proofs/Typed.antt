@@ -3,49 +3,31 @@ use Prim.Native.Nat.{ℕ, _^_, _<_}
 use mathlib.Core.Path.{_≡_}
 use mathlib.Core.Bool.{true}
 use native.Mathlib.Omega.{arith}
+use Rattle.address.specs.Address.{FitsFlow}
+use Rattle.address.specs.declared.Version.{Version}
 use Rattle.connection.specs.Sound.{soundConnection, soundEnd}
 use Rattle.connection.specs.declared.End.{End}
 use Rattle.connection.proofs.Sound.{soundFins≤3, soundEnd-true, sound-facts}
 use Rattle.history.specs.Records.{Fits}
 use Rattle.entry.specs.Typed.{TypedEnd, Typed}
 use Rattle.entry.specs.declared.Entry.{Entry}
-use Rattle.honest.specs.Typed as honest
-use Rattle.honest.specs.IPv4.{Addresses}
-use Rattle.demands.specs.Bytes.{viewEntry}
-
--- 32-bit addresses and 16-bit ports
-pub record AddressesFit (k : Addresses) : Type 0 where
-  pub source : k .source < 2 ^ 32
-  pub sourcePort : k .sourcePort < 2 ^ 16
-  pub destination : k .destination < 2 ^ 32
-  pub destinationPort : k .destinationPort < 2 ^ 16
-
-pub typed-fits : (e : Entry) → Typed e → AddressesFit (viewEntry e .key)
-typed-fits e typed = record {
-  source = typed .opener-address;
-  sourcePort = typed .opener-port;
-  destination = typed .answerer-address;
-  destinationPort = typed .answerer-port;
-}
+use Rattle.honest.specs.Sound as honest
 
 typed-end : (x : End) → Fits x → soundEnd x ≡ true → TypedEnd x
 typed-end x fits sound = record { end = fits .end; edge = fits .edge; win = omega (arith, soundEnd-true x sound .1) }
 
 -- a sound connection between two endpoints makes an entry within its types
 pub typed-entry :
-    (now : ℕ) (e : Entry) → soundConnection now (e .connection) ≡ true → now < 2 ^ 48 → honest.Typed (e .connection) →
-    AddressesFit (viewEntry e .key) →
-    Typed e
-typed-entry now e sound small (x, ends) fits =
+    (v : Version) (now : ℕ) (e : Entry) → soundConnection now (e .connection) ≡ true → now < 2 ^ 48 → honest.Typed (e .connection) →
+    FitsFlow v (e .key) →
+    Typed v e
+typed-entry v now e sound small (x, ends) fits =
     let f = sound-facts now (e .connection) sound in
     record {
       stage = omega (arith, f .stage-most);
       side = omega (arith, f .side);
       fins = omega (arith, soundFins≤3 _ _ (f .fins));
-      opener-address = fits .source;
-      answerer-address = fits .destination;
-      opener-port = fits .sourcePort;
-      answerer-port = fits .destinationPort;
+      key = fits;
       deadline = omega (arith, f .deadline);
       two-ends = rw (ends .two);
       opener = rw (ends .two) (typed-end (x 0) (ends .opener) (rw (ends .two) at (f .opener)));

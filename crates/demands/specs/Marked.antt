@@ -5,25 +5,24 @@ use mathlib.Core.Bool.{true}
 use mathlib.Core.List.{List, [], _∷_}
 use Rattle.choice.specs.Choice.{_=ᵇ_, if_then_else_}
 use Rattle.entry.specs.Layout.{placeAt, entryAt}
-use Rattle.entry.specs.declared.Entry.{Entry}
-use Rattle.filter.specs.Call.{nowhere, withEntry}
-use Rattle.honest.specs.Rows.{Ask}
+use Rattle.rows.specs.Rows.{Ask, Passed, nowhere}
+use Rattle.address.specs.declared.Version.the-variants.{V4}
+use Rattle.filter.specs.Call.{tableOf, tableAfter}
 use Rattle.honest.specs.Machine.{asks, Said}
-use Rattle.honest.specs.IPv4.{IPv4}
 use Rattle.honest.specs.Marked.{packet1, packet2, entry11, Name, example, C, Case, isLeft}
-use Rattle.demands.specs.Bytes.{SoundBytes, viewOf, readingOf, bytesMachine}
+use Rattle.demands.specs.Bytes.{SoundBytes, readingOf, bytesMachine}
 use Rattle.demands.specs.Demands.{freshBytes}
 use Rattle.demands.specs.Packets.{bytesCall}
 
 -- what the call on bytes says to the packet that brings what is asked
-abbrev pub saidTo : List ℕ → Ask IPv4 → Said (List ℕ)
-saidTo t a = bytesMachine .run t (bytesCall a)
+abbrev pub saidTo : List ℕ → Ask → Said (List ℕ)
+saidTo t a = bytesMachine V4 .run t (bytesCall a)
 
 -- Tables
 
 -- 4,160 zero bytes
 unfoldable pub emptyBytes : List ℕ
-emptyBytes = freshBytes 64
+emptyBytes = freshBytes V4 64
 
 -- what the example's two passes leave
 unfoldable pub openedBytes : List ℕ
@@ -33,15 +32,8 @@ unfoldable pub stateKBytes : List ℕ
 stateKBytes = saidTo openedBytes packet2 .next
 
 -- C11's own records, at place 0 of an all-zero table
-abbrev pub bytesEntry11 : Entry
-bytesEntry11 = record {
-  opener = record { address = entry11 .key .source; port = entry11 .key .sourcePort };
-  answerer = record { address = entry11 .key .destination; port = entry11 .key .destinationPort };
-  connection = entry11 .connection;
-}
-
 unfoldable pub state11Bytes : List ℕ
-state11Bytes = withEntry emptyBytes 0 0 bytesEntry11
+state11Bytes = tableAfter V4 emptyBytes (Passed 0 0 entry11)
 
 -- the table before a case's call
 abbrev pub bytesBefore : Name → List ℕ
@@ -53,12 +45,12 @@ bytesBefore (C n) = if n =ᵇ 11 then state11Bytes else if n =ᵇ 12 then opened
 -- the bytes are sound and are the case's table, and the packet is read as the case's call; the answer, place 0 with a pass, and what the
 -- bytes then hold at place 0 are as said
 pub record OnBytes (c : Case) (t : List ℕ) : Type 0 where
-  pub sound : SoundBytes t
-  pub table : viewOf t ≡ c .table
-  pub reads : readingOf (bytesCall (c .call)) ≡ asks (c .call)
+  pub sound : SoundBytes V4 t
+  pub table : tableOf V4 t ≡ c .table
+  pub reads : readingOf V4 (bytesCall (c .call)) ≡ asks (c .call)
   pub answer : saidTo t (c .call) .answer ≡ c .answer
   pub place : saidTo t (c .call) .place ≡ (if c .answer =ᵇ 0 then 0 else nowhere)
-  pub left : isLeft (c .left) (entryAt (saidTo t (c .call) .next) (placeAt 0) .connection .ends) ≡ true
+  pub left : isLeft (c .left) (entryAt V4 (saidTo t (c .call) .next) (placeAt V4 0) .connection .ends) ≡ true
 
 abbrev pub AllOnBytes : List Case → Type 0
 AllOnBytes [] = Unit {0}

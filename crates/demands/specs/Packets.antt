@@ -6,8 +6,7 @@ use Rattle.octets.specs.BigEndian.{octetsOf}
 use Rattle.octets.proofs.Octets.{Bytes, bytes-[], bytes-++, bytes-octetsOf, bytes-replicate}
 use Rattle.segment.specs.Flags.{fin, syn}
 use Rattle.packet.specs.Sum.{onesSum}
-use Rattle.honest.specs.Rows.{Ask}
-use Rattle.honest.specs.IPv4.{IPv4}
+use Rattle.rows.specs.Rows.{Ask}
 use Rattle.demands.specs.Bytes.{BytesCall}
 
 -- a header's field, of 8, 16 or 32 bits
@@ -29,7 +28,7 @@ octetsIn (f ∷ l) = fieldOctets f ++ octetsIn l
 unfoldable pub checksum : List Field → ℕ
 checksum l = 0xffff - onesSum (octetsIn l)
 
-module _ (a : Ask IPv4) where
+module _ (a : Ask) where
   -- SYN and FIN count one each among the segment's octets
   unfoldable pub payloadOf : ℕ
   payloadOf = a .segment .octets .0 - syn (a .segment .flags) - fin (a .segment .flags)
@@ -40,14 +39,14 @@ module _ (a : Ask IPv4) where
       u8 0x45 ∷ u8 0 ∷ u16 (20 + 20 + payloadOf)
       ∷ u16 0 ∷ u16 0
       ∷ u8 64 ∷ u8 6 ∷ u16 sum
-      ∷ u32 (a .key .source)
-      ∷ u32 (a .key .destination)
+      ∷ u32 (a .key .from .address .low)
+      ∷ u32 (a .key .to .address .low)
       ∷ []
 
   -- ports; numbers; 5 words of header, flags, window; the checksum given, no urgent pointer
   unfoldable pub tcpHeader : ℕ → List Field
   tcpHeader sum =
-      u16 (a .key .sourcePort) ∷ u16 (a .key .destinationPort)
+      u16 (a .key .from .port) ∷ u16 (a .key .to .port)
       ∷ u32 (a .segment .seq .0)
       ∷ u32 (a .segment .ack .0)
       ∷ u8 (5 * 16) ∷ u8 (a .segment .flags) ∷ u16 (a .segment .window .0)
@@ -56,7 +55,7 @@ module _ (a : Ask IPv4) where
 
   -- what TCP's checksum covers besides its header; a payload of zeros adds nothing
   unfoldable pub pseudoHeader : List Field
-  pseudoHeader = u32 (a .key .source) ∷ u32 (a .key .destination) ∷ u8 0 ∷ u8 6 ∷ u16 (20 + payloadOf) ∷ []
+  pseudoHeader = u32 (a .key .from .address .low) ∷ u32 (a .key .to .address .low) ∷ u8 0 ∷ u8 6 ∷ u16 (20 + payloadOf) ∷ []
 
   -- each checksum is taken over its header with a zero in its place
   unfoldable pub packetOf : List ℕ
@@ -75,10 +74,10 @@ unfolding octetsIn
 bytes-fields [] = bytes-[]
 bytes-fields (f ∷ l) = bytes-++ (bytes-field f) (bytes-fields l)
 
-pub bytes-packet : (a : Ask IPv4) → Bytes (packetOf a)
+pub bytes-packet : (a : Ask) → Bytes (packetOf a)
 unfolding packetOf
 bytes-packet a = bytes-++ (bytes-fields _) (bytes-replicate (payloadOf a))
 
 -- the call that lends it
-abbrev pub bytesCall : Ask IPv4 → BytesCall
+abbrev pub bytesCall : Ask → BytesCall
 bytesCall a = record { side = a .side; clock = a .clock; packet = packetOf a; octets = bytes-packet a .small }

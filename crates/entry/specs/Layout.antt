@@ -1,23 +1,42 @@
--- The table in bytes (document 01, "The table"): a header of 64 bytes, then entries of 64.
+-- The table in bytes (document 01, "The table"): a header of 64 bytes, then entries of 64, or of 96 in an IPv6 table.
 use Prim.Native.Nat.{ℕ, _+_, _*_}
 use mathlib.Core.List.{List, [], _∷_, _++_}
 use lib.ListN.{getD, replicate}
 use Rattle.octets.specs.BigEndian.{bigEndian, octetsOf}
+use Rattle.address.specs.Address.{addressSize, addressOctets, flowAt}
+use Rattle.address.specs.declared.Version.{Version}
+use Rattle.address.specs.declared.Version.the-variants.{V4, V6}
+use Rattle.address.specs.declared.Flow.{Flow}
 use Rattle.connection.specs.Ends.{count, seqNum, sender}
 use Rattle.connection.specs.declared.Connection.{Connection}
 use Rattle.connection.specs.declared.End.{End}
-use Rattle.entry.specs.declared.Endpoint.{Endpoint}
 use Rattle.entry.specs.declared.Entry.{Entry}
 
 abbrev pub headerSize : ℕ
 headerSize = 64
 
-abbrev pub entrySize : ℕ
-entrySize = 64
+-- zeros that end an entry
+abbrev pub restSize : Version → ℕ
+restSize V4 = 16
+restSize V6 = 24
+
+-- where the ports of the entry at an offset begin, its numbers, and the zeros that end it
+abbrev pub portsAt : Version → ℕ → ℕ
+portsAt v at = at + 4 + addressSize v + addressSize v
+
+abbrev pub numbersAt : Version → ℕ → ℕ
+numbersAt v at = portsAt v at + 4
+
+abbrev pub restAt : Version → ℕ → ℕ
+restAt v at = numbersAt v at + 32
+
+-- 64 or 96
+abbrev pub entrySize : Version → ℕ
+entrySize v = restAt v 0 + restSize v
 
 -- where the entry at place p begins
-abbrev pub placeAt : ℕ → ℕ
-placeAt p = headerSize + entrySize * p
+unfoldable pub placeAt : Version → ℕ → ℕ
+placeAt v p = headerSize + entrySize v * p
 
 -- end (4), edge (4), win (4)
 unfoldable pub endBytes : End → List ℕ
@@ -30,40 +49,35 @@ endAt t at = record { end = seqNum (bigEndian 4 t at); edge = seqNum (bigEndian 
 unfoldable pub marksBytes : Connection → List ℕ
 marksBytes c = c .stage ∷ c .side ∷ c .fins ∷ 0 ∷ []
 
--- opener address (4), answerer address (4), opener port (2), answerer port (2)
-unfoldable pub endpointsBytes : Endpoint → Endpoint → List ℕ
-endpointsBytes opener answerer =
-    octetsOf 4 (opener .address)
-    ++ (octetsOf 4 (answerer .address) ++ (octetsOf 2 (opener .port) ++ octetsOf 2 (answerer .port)))
+-- opener address (4 or 16), answerer address (4 or 16), opener port (2), answerer port (2)
+unfoldable pub flowBytes : Version → Flow → List ℕ
+flowBytes v k =
+    addressOctets v (k .from .address)
+    ++ (addressOctets v (k .to .address) ++ (octetsOf 2 (k .from .port) ++ octetsOf 2 (k .to .port)))
 
 -- deadline (8), then for opener and then answerer: end, edge, win
 unfoldable pub numbersBytes : Connection → List ℕ
 numbersBytes c = octetsOf 8 (c .deadline) ++ (endBytes (sender (c .ends) 0) ++ endBytes (sender (c .ends) 1))
 
--- these three, then 16 zeros
-unfoldable pub entryBytes : Entry → List ℕ
-entryBytes e =
+-- these three, then 16 or 24 zeros
+unfoldable pub entryBytes : Version → Entry → List ℕ
+entryBytes v e =
     marksBytes (e .connection)
-    ++ (endpointsBytes (e .opener) (e .answerer) ++ (numbersBytes (e .connection) ++ replicate 16 0))
+    ++ (flowBytes v (e .key) ++ (numbersBytes (e .connection) ++ replicate (restSize v) 0))
 
--- an address (4) and its port (2), which stand apart
-abbrev pub endpointAt : List ℕ → ℕ → ℕ → Endpoint
-endpointAt t addressAt portAt = record { address = bigEndian 4 t addressAt; port = bigEndian 2 t portAt }
-
--- stage, opener's side, FIN bits, deadline, then the opener's record and the answerer's
-unfoldable pub connectionAt : List ℕ → ℕ → Connection
-connectionAt t at = record {
+-- stage, opener's side, FIN bits; where the numbers begin: deadline, then the opener's record and the answerer's
+unfoldable pub connectionAt : List ℕ → ℕ → ℕ → Connection
+connectionAt t at numbers = record {
   stage = getD t at 0;
   side = getD t (at + 1) 0;
   fins = getD t (at + 2) 0;
-  deadline = bigEndian 8 t (at + 16);
-  ends = endAt t (at + 24) ∷ endAt t (at + 36) ∷ [];
+  deadline = bigEndian 8 t numbers;
+  ends = endAt t (numbers + 8) ∷ endAt t (numbers + 20) ∷ [];
 }
 
 -- the entry whose bytes begin at an offset
-unfoldable pub entryAt : List ℕ → ℕ → Entry
-entryAt t at = record {
-  opener = endpointAt t (at + 4) (at + 12);
-  answerer = endpointAt t (at + 8) (at + 14);
-  connection = connectionAt t at;
+unfoldable pub entryAt : Version → List ℕ → ℕ → Entry
+entryAt v t at = record {
+  key = flowAt v t (at + 4) (portsAt v at);
+  connection = connectionAt t at (numbersAt v at);
 }

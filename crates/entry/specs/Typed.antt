@@ -2,6 +2,8 @@
 use Prim.Native.Nat.{_^_, _<_}
 use mathlib.Core.Path.{_≡_}
 use lib.ListN.{length}
+use Rattle.address.specs.Address.{FitsFlow}
+use Rattle.address.specs.declared.Version.{Version}
 use Rattle.connection.specs.Ends.{sender}
 use Rattle.connection.specs.declared.End.{End}
 use Rattle.entry.specs.declared.Entry.{Entry}
@@ -11,14 +13,11 @@ pub record TypedEnd (e : End) : Type 0 where
   pub edge : e .edge .0 < 2 ^ 32
   pub win : e .win .0 < 2 ^ 32
 
-pub record Typed (e : Entry) : Type 0 where
+pub record Typed (v : Version) (e : Entry) : Type 0 where
   pub stage : e .connection .stage < 2 ^ 8
   pub side : e .connection .side < 2 ^ 8
   pub fins : e .connection .fins < 2 ^ 8
-  pub opener-address : e .opener .address < 2 ^ 32
-  pub answerer-address : e .answerer .address < 2 ^ 32
-  pub opener-port : e .opener .port < 2 ^ 16
-  pub answerer-port : e .answerer .port < 2 ^ 16
+  pub key : FitsFlow v (e .key)
   pub deadline : e .connection .deadline < 2 ^ 64
   pub two-ends : length (e .connection .ends) ≡ 2
   pub opener : TypedEnd (sender (e .connection .ends) 0)

@@ -1,12 +1,18 @@
-// One entry of the table by value: loaded from its place in lent bytes, and stored there (document 01, "The table").
+// One entry of the table by value: loaded from its place in lent bytes, and stored there (document 01, "The table"), in the layout of
+// either IP version.
 ghost use mathlib.Core.Path.{_≡_};
-ghost use Prim.Native.Nat.{_+_, _≤_};
+ghost use Prim.Native.Nat.{_+_, _^_, _≤_, _<_};
 ghost use lib.ListN.{length, replicate};
 ghost use Rattle.octets.specs.Overwrite.{overwrite};
-ghost use Rattle.entry.specs.Layout.{placeAt, entrySize, entryAt, endpointAt, connectionAt, endAt, entryBytes, marksBytes, endpointsBytes, numbersBytes, endBytes};
+ghost use Rattle.address.specs.Address.{addressSize};
+ghost use Rattle.entry.specs.Layout.{placeAt, entrySize, restSize, numbersAt, entryAt, connectionAt, endAt, entryBytes, marksBytes, flowBytes, numbersBytes, endBytes};
+use address::Flow;
+use address::Version;
+use address::address_size;
+use address::read_flow;
+use address::write_address;
 use connection::Connection;
 use connection::End;
-use octets::read16;
 use octets::read32;
 use octets::read64;
 use octets::write16;
@@ -15,18 +21,46 @@ use octets::write64;
 use serial::OctetCount;
 use serial::SeqNum;
 
-// One end's address and port.
-pub struct Endpoint {
-    pub address: u32,
-    pub port: u16,
-}
-
 // Addresses and ports stand the opener's way round.
 pub struct Entry {
-    pub opener: Endpoint,
-    pub answerer: Endpoint,
+    pub key: Flow,
     pub connection: Connection,
 }
+
+// The layout
+
+pub fn entry_size(version: Version) -> usize
+    ensures { λ r. ⌜ r ≡ entrySize version ⌝ }
+{
+    match version {
+        Version::V4 => 64,
+        Version::V6 => 96,
+    }
+}
+
+// Where the entry at a place begins.
+pub fn place_at(version: Version, place: usize) -> usize
+    requires { ⌜ placeAt version place < 2 ^ 64 ⌝ }
+    ensures { λ r. ⌜ r ≡ placeAt version place ⌝ }
+{
+    match version {
+        Version::V4 => 64 + 64 * place,
+        Version::V6 => 64 + 96 * place,
+    }
+}
+
+// Where the deadline and the two records of the entry at an offset begin.
+pub fn numbers_at(version: Version, at: usize) -> usize
+    requires { ⌜ numbersAt version at < 2 ^ 64 ⌝ }
+    ensures { λ r. ⌜ r ≡ numbersAt version at ⌝ }
+{
+    match version {
+        Version::V4 => at + 16,
+        Version::V6 => at + 40,
+    }
+}
+
+// Loading
 
 // One end's record: end, edge, win.
 pub fn load_end(table: &[u8], at: usize) -> End
@@ -43,17 +77,17 @@ pub fn load_end(table: &[u8], at: usize) -> End
     }
 }
 
-// An entry without its addresses and ports.
-fn load_connection(table: &[u8], at: usize) -> Connection
-    requires { ⌜ at + entrySize ≤ length (now table) ⌝ }
-    ensures { λ r. ⌜ r ≡ connectionAt (now (table .entry)) at ⌝ }
+// An entry without its addresses and ports, by where it and its numbers begin.
+fn load_connection(table: &[u8], at: usize, numbers: usize) -> Connection
+    requires { ⌜ (at + 4 ≤ length (now table)) × (numbers + 32 ≤ length (now table)) ⌝ }
+    ensures { λ r. ⌜ r ≡ connectionAt (now (table .entry)) at numbers ⌝ }
 {
     let stage = table[at];
     let side = table[at + 1];
     let fins = table[at + 2];
-    let deadline = read64(table, at + 16);
-    let opener = load_end(table, at + 24);
-    let answerer = load_end(table, at + 36);
+    let deadline = read64(table, numbers);
+    let opener = load_end(table, numbers + 8);
+    let answerer = load_end(table, numbers + 20);
     Connection {
         stage: stage,
         side: side,
@@ -63,32 +97,22 @@ fn load_connection(table: &[u8], at: usize) -> Connection
     }
 }
 
-// An address and a port, each at its offset.
-fn load_endpoint(table: &[u8], address: usize, port: usize) -> Endpoint
-    requires { ⌜ (address + 4 ≤ length (now table)) × (port + 2 ≤ length (now table)) ⌝ }
-    ensures { λ r. ⌜ r ≡ endpointAt (now (table .entry)) address port ⌝ }
-{
-    Endpoint {
-        address: read32(table, address),
-        port: read16(table, port),
-    }
-}
-
 // The entry at a place.
-pub fn load(table: &[u8], place: usize) -> Entry
-    requires { ⌜ placeAt place + entrySize ≤ length (now table) ⌝ }
-    ensures { λ r. ⌜ r ≡ entryAt (now (table .entry)) (placeAt place) ⌝ }
+pub fn load(version: Version, table: &[u8], place: usize) -> Entry
+    requires { ⌜ placeAt version place + entrySize version ≤ length (now table) ⌝ }
+    ensures { λ r. ⌜ r ≡ entryAt version (now (table .entry)) (placeAt version place) ⌝ }
 {
-    let at = 64 + 64 * place;
-    let opener = load_endpoint(table, at + 4, at + 12);
-    let answerer = load_endpoint(table, at + 8, at + 14);
-    let connection = load_connection(table, at);
+    let at = place_at(version, place);
+    let numbers = numbers_at(version, at);
+    let key = read_flow(version, table, at + 4, numbers - 4);
+    let connection = load_connection(table, at, numbers);
     Entry {
-        opener: opener,
-        answerer: answerer,
+        key: key,
         connection: connection,
     }
 }
+
+// Storing
 
 // One end's record.
 fn store_end(table: &mut [u8], at: usize, end: End)
@@ -115,14 +139,20 @@ fn store_marks(table: &mut [u8], at: usize, connection: Connection)
 }
 
 // Both addresses, then both ports.
-fn store_endpoints(table: &mut [u8], at: usize, opener: Endpoint, answerer: Endpoint)
-    requires { ⌜ at + 12 ≤ length (now table) ⌝ }
-    ensures { λ r. ⌜ now (table .exit) ≡ overwrite (now (table .entry)) at (endpointsBytes opener answerer) ⌝ }
+fn store_flow(version: Version, table: &mut [u8], at: usize, flow: Flow)
+    requires { ⌜ at + addressSize version + addressSize version + 4 ≤ length (now table) ⌝ }
+    ensures { λ r. ⌜ now (table .exit) ≡ overwrite (now (table .entry)) at (flowBytes version flow) ⌝ }
 {
-    write32(table, at, opener.address);
-    write32(table, at + 4, answerer.address);
-    write16(table, at + 8, opener.port);
-    write16(table, at + 10, answerer.port);
+    let from = flow.from;
+    let to = flow.to;
+    let first = from.address;
+    let second = to.address;
+    let next = at + address_size(version);
+    let ports = next + address_size(version);
+    write_address(version, table, at, first);
+    write_address(version, table, next, second);
+    write16(table, ports, from.port);
+    write16(table, ports + 2, to.port);
 }
 
 // The deadline and the two records.
@@ -137,8 +167,7 @@ fn store_numbers(table: &mut [u8], at: usize, connection: Connection)
     store_end(table, at + 20, answerer);
 }
 
-// The 16 zeros that end an entry.
-fn store_zeros(table: &mut [u8], at: usize)
+fn store_zeros16(table: &mut [u8], at: usize)
     requires { ⌜ at + 16 ≤ length (now table) ⌝ }
     ensures { λ r. ⌜ now (table .exit) ≡ overwrite (now (table .entry)) at (replicate 16 0) ⌝ }
 {
@@ -146,17 +175,36 @@ fn store_zeros(table: &mut [u8], at: usize)
     write64(table, at + 8, 0);
 }
 
-// All 64 bytes of the place are written, the zero ones too.
-pub fn store(table: &mut [u8], place: usize, entry: Entry)
-    requires { ⌜ placeAt place + entrySize ≤ length (now table) ⌝ }
-    ensures { λ r. ⌜ now (table .exit) ≡ overwrite (now (table .entry)) (placeAt place) (entryBytes entry) ⌝ }
+fn store_zeros24(table: &mut [u8], at: usize)
+    requires { ⌜ at + 24 ≤ length (now table) ⌝ }
+    ensures { λ r. ⌜ now (table .exit) ≡ overwrite (now (table .entry)) at (replicate 24 0) ⌝ }
 {
-    let at = 64 + 64 * place;
+    store_zeros16(table, at);
+    write64(table, at + 16, 0);
+}
+
+// The zeros that end an entry.
+fn store_rest(version: Version, table: &mut [u8], at: usize)
+    requires { ⌜ at + restSize version ≤ length (now table) ⌝ }
+    ensures { λ r. ⌜ now (table .exit) ≡ overwrite (now (table .entry)) at (replicate (restSize version) 0) ⌝ }
+{
+    match version {
+        Version::V4 => store_zeros16(table, at),
+        Version::V6 => store_zeros24(table, at),
+    }
+}
+
+// All bytes of the place are written, the zero ones too.
+pub fn store(version: Version, table: &mut [u8], place: usize, entry: Entry)
+    requires { ⌜ placeAt version place + entrySize version ≤ length (now table) ⌝ }
+    ensures { λ r. ⌜ now (table .exit) ≡ overwrite (now (table .entry)) (placeAt version place) (entryBytes version entry) ⌝ }
+{
+    let at = place_at(version, place);
+    let numbers = numbers_at(version, at);
     let connection = entry.connection;
-    let opener = entry.opener;
-    let answerer = entry.answerer;
+    let key = entry.key;
     store_marks(table, at, connection);
-    store_endpoints(table, at + 4, opener, answerer);
-    store_numbers(table, at + 16, connection);
-    store_zeros(table, at + 48);
+    store_flow(version, table, at + 4, key);
+    store_numbers(table, numbers, connection);
+    store_rest(version, table, numbers + 32);
 }

@@ -5,31 +5,47 @@ use mathlib.Core.List.{List, []}
 use native.Mathlib.Omega.{arith}
 use Rattle.octets.specs.BigEndian.{bigEndian, octetsOf}
 use Rattle.octets.specs.Digits.{tabulate, number, digits}
-use Rattle.entry.specs.Layout.{entrySize, connectionAt, entryAt, endBytes, marksBytes, endpointsBytes, numbersBytes, entryBytes}
+use Rattle.address.specs.Address.{Fits, FitsFlow}
+use Rattle.address.specs.Flows.{nobody, noFlow}
+use Rattle.address.specs.declared.Version.{Version}
+use Rattle.address.specs.declared.Version.the-variants.{V4, V6}
+use Rattle.entry.specs.Layout.{entrySize, connectionAt, entryAt, endBytes, marksBytes, flowBytes, numbersBytes, entryBytes}
 use Rattle.entry.specs.Typed.{Typed}
+use Rattle.entry.specs.declared.Entry.{Entry}
 use Rattle.entry.proofs.Agree.{entryAt-agree}
 use Rattle.table.specs.Table.{allFrom, zerosAt}
 use Rattle.table.proofs.Zeros.{Zeros, zerosAt-true}
-use Rattle.filter.specs.Call.{freeEntry}
+use Rattle.entry.specs.Viewed.{stored}
+use Rattle.rows.specs.Rows as rows
+use Rattle.rows.specs.Connections.{connections}
 
--- an entry of 64 zeros is free
-pub zeros-free : (t : List ℕ) (at : ℕ) → Zeros t at entrySize → entryAt t at ≡ freeEntry
+abbrev pub freeEntry : Entry
+freeEntry = stored (rows.freeEntry connections)
+
+-- an entry of zeros is free
+pub zeros-free : (v : Version) (t : List ℕ) (at : ℕ) → Zeros t at (entrySize v) → entryAt v t at ≡ freeEntry
 unfolding entryAt connectionAt bigEndian number
-zeros-free t at zeros = entryAt-agree t at [] 0 zeros
+zeros-free V4 t at zeros = entryAt-agree V4 t at [] 0 zeros
+zeros-free V6 t at zeros = entryAt-agree V6 t at [] 0 zeros
 
-pub free-zeros : Zeros (entryBytes freeEntry) 0 entrySize
-unfolding entryBytes marksBytes endpointsBytes numbersBytes endBytes octetsOf digits tabulate zerosAt allFrom
-free-zeros = zerosAt-true (entryBytes freeEntry) 0 64 refl
+pub free-zeros : (v : Version) → Zeros (entryBytes v freeEntry) 0 (entrySize v)
+unfolding entryBytes marksBytes flowBytes numbersBytes endBytes octetsOf digits tabulate zerosAt allFrom
+free-zeros V4 = zerosAt-true (entryBytes V4 freeEntry) 0 64 refl
+free-zeros V6 = zerosAt-true (entryBytes V6 freeEntry) 0 96 refl
 
-pub typed-free : Typed freeEntry
-typed-free = record {
+free-fits : (v : Version) → Fits v (nobody .address)
+free-fits V4 = (refl, omega arith)
+free-fits V6 = (omega arith, omega arith)
+
+free-flow : (v : Version) → FitsFlow v noFlow
+free-flow v = record { from-address = free-fits v; to-address = free-fits v; from-port = omega arith; to-port = omega arith }
+
+pub typed-free : (v : Version) → Typed v freeEntry
+typed-free v = record {
   stage = omega arith;
   side = omega arith;
   fins = omega arith;
-  opener-address = omega arith;
-  answerer-address = omega arith;
-  opener-port = omega arith;
-  answerer-port = omega arith;
+  key = free-flow v;
   deadline = omega arith;
   two-ends = refl;
   opener = record { end = omega arith; edge = omega arith; win = omega arith };

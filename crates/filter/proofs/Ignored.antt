@@ -5,4 +5,4 @@ use Rattle.filter.specs.Ignored.{PastTotalIgnoredByCall}
 
 pub past-total-ignored-by-call : PastTotalIgnoredByCall
 unfolding outcomeOf
-past-total-ignored-by-call side clock t p past whole given = rw (past-total-ignored p past whole given)
+past-total-ignored-by-call v side clock t p past whole given = rw (past-total-ignored v p past whole given)

@@ -4,19 +4,22 @@ use mathlib.Core.Path.{_≡_}
 use mathlib.Core.List.{List}
 use lib.ListN.{length}
 use Rattle.choice.specs.Choice.{if_then_else_, _=ᵇ_}
+use Rattle.address.specs.declared.Version.{Version}
 use Rattle.entry.specs.Layout.{entrySize, placeAt}
-use Rattle.filter.specs.Call.{freeEntry, nowhere, withEntry}
-use Rattle.filter.specs.Outcome.{Outcome, Blocked, Passed}
+use Rattle.entry.specs.Viewed.{stored}
+use Rattle.rows.specs.Rows.{Blocked, Passed, freeEntry, nowhere}
+use Rattle.rows.specs.Connections.{connections}
+use Rattle.filter.specs.Call.{Outcome, withEntry}
 use Rattle.filter.specs.declared.Decision.{Decision}
 
 abbrev pub decisionOf : Outcome → Decision
-decisionOf (Blocked n) = record { answer = n; place = nowhere; clock = 0; entry = freeEntry }
-decisionOf (Passed p now e) = record { answer = 0; place = p; clock = now; entry = e }
+decisionOf (Blocked n) = record { answer = n; place = nowhere; clock = 0; entry = stored (freeEntry connections) }
+decisionOf (Passed p now e) = record { answer = 0; place = p; clock = now; entry = stored e }
 
 -- the table that a decision leaves
-unfoldable pub written : List ℕ → Decision → List ℕ
-written t d = if d .answer =ᵇ 0 then withEntry t (d .place) (d .clock) (d .entry) else t
+unfoldable pub written : Version → List ℕ → Decision → List ℕ
+written v t d = if d .answer =ᵇ 0 then withEntry v t (d .place) (d .clock) (d .entry) else t
 
 -- the entry of a pass lies in the table
-abbrev pub Fits : List ℕ → Decision → Type 0
-Fits t d = d .answer ≡ 0 → placeAt (d .place) + entrySize ≤ length t
+abbrev pub Fits : Version → List ℕ → Decision → Type 0
+Fits v t d = d .answer ≡ 0 → placeAt v (d .place) + entrySize v ≤ length t

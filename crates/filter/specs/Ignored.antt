@@ -3,11 +3,12 @@ use Prim.Native.Nat.{ℕ, _≤_}
 use mathlib.Core.Path.{_≡_}
 use mathlib.Core.List.{List, _++_}
 use lib.ListN.{length}
-use Rattle.packet.specs.Header.{totalLength}
+use Rattle.address.specs.declared.Version.{Version}
+use Rattle.packet.specs.Ignored.{leastHeader, packetEnd}
 use Rattle.filter.specs.Call.{outcomeOf}
 
--- whatever bytes follow a packet of at least 20 bytes and its total length, the call comes to the same
+-- whatever bytes follow a whole packet, the call comes to the same
 abbrev pub PastTotalIgnoredByCall : Type 0
 PastTotalIgnoredByCall =
-    (side clock : ℕ) (t p past : List ℕ) → 20 ≤ length p → totalLength p ≤ length p →
-    outcomeOf side clock t (p ++ past) ≡ outcomeOf side clock t p
+    (v : Version) (side clock : ℕ) (t p past : List ℕ) → leastHeader v ≤ length p → packetEnd v p ≤ length p →
+    outcomeOf v side clock t (p ++ past) ≡ outcomeOf v side clock t p

@@ -1,4 +1,4 @@
-pub mod Outcome
+pub mod Length
 pub mod Call
 pub mod Decision
 pub mod Ignored

@@ -3,26 +3,31 @@ ghost use mathlib.Core.Path.{_≡_};
 ghost use Prim.Native.Nat.{_^_, _≤_, _<_};
 ghost use lib.ListN.{length};
 ghost use Rattle.entry.specs.Layout.{headerSize, placeAt};
+ghost use Rattle.entry.specs.Viewed.{viewed, stored};
 ghost use Rattle.packet.specs.Read.{readPacket};
-ghost use Rattle.filter.specs.Call.{legalLength, placesIn, clockUsed, sourceOf, destinationOf, freeEntry, entryWith, senderOf, onEntry, openingEntry, unmatched, onSegment, onPacket, outcomeOf, replyOf, tableAfter};
+ghost use Rattle.rows.specs.Rows.{Blocked, Passed, freeEntry, entryWith, senderOf, onEntry, openingEntry, unmatched, onSegment};
+ghost use Rattle.rows.specs.Connections.{connections};
+ghost use Rattle.table.specs.Table.{viewOf};
+ghost use Rattle.filter.specs.Length.{legalLength, placesFor};
+ghost use Rattle.filter.specs.Call.{clockUsed, onPacket, outcomeOf, replyOf, tableAfter};
 ghost use Rattle.filter.specs.Decision.{decisionOf, written, Fits};
-ghost use Rattle.filter.specs.Outcome.{Blocked, Passed};
+use address::Address;
+use address::Endpoint;
+use address::Flow;
+use address::Version;
 use connection::Connection;
 use connection::End;
 use connection::Verdict;
-use entry::Endpoint;
 use entry::Entry;
 use entry::load;
 use entry::store;
-use packet::Flow;
 use packet::PacketRead;
 use packet::read_packet;
+use rows::Found;
 use segment::Segment;
 use serial::OctetCount;
 use serial::SeqNum;
-use table::Found;
 use table::find;
-use table::from_opener;
 use table::set_clock;
 use table::sound;
 use table::vacant;
@@ -44,10 +49,11 @@ pub struct Reply {
 
 // A free entry: all zeros.
 fn free_entry() -> Entry
-    ensures { λ r. ⌜ r ≡ freeEntry ⌝ }
+    ensures { λ r. ⌜ r ≡ stored (freeEntry connections) ⌝ }
 {
+    let nowhere = Address { high: 0, low: 0 };
     let nobody = Endpoint {
-        address: 0,
+        address: nowhere,
         port: 0,
     };
     let zero = End {
@@ -56,8 +62,10 @@ fn free_entry() -> Entry
         win: OctetCount(0),
     };
     Entry {
-        opener: nobody,
-        answerer: nobody,
+        key: Flow {
+            from: nobody,
+            to: nobody,
+        },
         connection: Connection {
             stage: 0,
             side: 0,
@@ -82,7 +90,7 @@ fn blocked(answer: u32) -> Decision
 }
 
 fn passed(place: usize, clock: u64, entry: Entry) -> Decision
-    ensures { λ r. ⌜ r ≡ decisionOf (Passed place clock entry) ⌝ }
+    ensures { λ r. ⌜ r ≡ decisionOf (Passed place clock (viewed entry)) ⌝ }
 {
     Decision {
         answer: 0,
@@ -92,71 +100,42 @@ fn passed(place: usize, clock: u64, entry: Entry) -> Decision
     }
 }
 
-fn source(flow: Flow) -> Endpoint
-    ensures { λ r. ⌜ r ≡ sourceOf flow ⌝ }
-{
-    Endpoint {
-        address: flow.source,
-        port: flow.sport,
-    }
-}
-
-fn destination(flow: Flow) -> Endpoint
-    ensures { λ r. ⌜ r ≡ destinationOf flow ⌝ }
-{
-    Endpoint {
-        address: flow.destination,
-        port: flow.dport,
-    }
-}
-
 // The end that sent a matching segment: 0 the opener, 1 the answerer.
-fn sender(entry: Entry, side: u8, flow: Flow) -> usize
-    ensures { λ r. ⌜ (r ≡ senderOf entry side flow) × (r < 2) ⌝ }
+fn sender(entry: Entry, side: u8) -> usize
+    ensures { λ r. ⌜ (r ≡ senderOf connections (viewed entry) side) × (r < 2) ⌝ }
 {
-    let from = source(flow);
-    let to = destination(flow);
-    if from_opener(entry, side, from, to) {
+    if side == entry.connection.side {
         return 0;
     }
     1
 }
 
-// The entry after a passed segment, by its connection after it; a reset frees it.
-fn entry_after(entry: Entry, segment: Segment, after: Connection) -> Entry
-    ensures { λ r. ⌜ r ≡ entryWith entry segment after ⌝ }
+// An entry by its connection after a pass: free, if the pass has freed that.
+fn entry_after(entry: Entry, after: Connection) -> Entry
+    ensures { λ r. ⌜ r ≡ stored (entryWith connections (viewed entry) after) ⌝ }
 {
-    let opener = entry.opener;
-    let answerer = entry.answerer;
-    if segment.has_rst() {
+    let key = entry.key;
+    if after.stage == 0 {
         return free_entry();
     }
     Entry {
-        opener: opener,
-        answerer: answerer,
+        key: key,
         connection: after,
     }
 }
 
 // Rows 13 to 15 and 0, for a segment that matches the entry at a place.
-fn on_entry(
-    entry: Entry,
-    place: usize,
-    clock: u64,
-    side: u8,
-    flow: Flow,
-    segment: Segment,
-) -> Decision
+fn on_entry(entry: Entry, place: usize, clock: u64, side: u8, segment: Segment) -> Decision
     requires { ⌜ clock < 2 ^ 48 ⌝ }
-    ensures { λ r. ⌜ r ≡ decisionOf (onEntry entry place clock side flow segment) ⌝ }
+    ensures { λ r. ⌜ r ≡ decisionOf (onEntry connections (viewed entry) place clock side segment) ⌝ }
 {
-    let from = sender(entry, side, flow);
+    let from = sender(entry, side);
     let connection = entry.connection;
     let decided = connection.decide(from, segment, clock);
     let verdict = decided.verdict;
     let after = decided.connection;
     match verdict {
-        Verdict::Pass => passed(place, clock, entry_after(entry, segment, after)),
+        Verdict::Pass => passed(place, clock, entry_after(entry, after)),
         _ => blocked(verdict.number()),
     }
 }
@@ -164,20 +143,18 @@ fn on_entry(
 // The entry that an opening SYN makes.
 fn opening(clock: u64, side: u8, flow: Flow, segment: Segment) -> Entry
     requires { ⌜ clock < 2 ^ 48 ⌝ }
-    ensures { λ r. ⌜ r ≡ openingEntry clock side flow segment ⌝ }
+    ensures { λ r. ⌜ r ≡ stored (openingEntry connections clock side flow segment) ⌝ }
 {
-    let opener = source(flow);
-    let answerer = destination(flow);
     let connection = Connection::opened(side, segment, clock);
     Entry {
-        opener: opener,
-        answerer: answerer,
+        key: flow,
         connection: connection,
     }
 }
 
 // Rows 11, 12 and 0, for a segment that no live connection matches.
 fn unmatched(
+    version: Version,
     table: &[u8],
     places: usize,
     clock: u64,
@@ -185,8 +162,8 @@ fn unmatched(
     flow: Flow,
     segment: Segment,
 ) -> Decision
-    requires { ⌜ (places ≡ placesIn (now table)) × (placeAt places ≤ length (now table)) × (clock < 2 ^ 48) ⌝ }
-    ensures { λ r. ⌜ r ≡ decisionOf (unmatched (now (table .entry)) clock side flow segment) ⌝ }
+    requires { ⌜ (placeAt version places ≤ length (now table)) × (clock < 2 ^ 48) ⌝ }
+    ensures { λ r. ⌜ r ≡ decisionOf (unmatched connections (viewOf version (now (table .entry)) places) clock side flow segment) ⌝ }
 {
     if side != 0 {
         return blocked(11);
@@ -194,7 +171,7 @@ fn unmatched(
     let flags = segment.flags;
     match flags {
         2 => {
-            let found = vacant(table, places, clock);
+            let found = vacant(version, table, places, clock);
             match found {
                 Found::At(place) => passed(place, clock, opening(clock, side, flow, segment)),
                 Found::Nothing => blocked(12),
@@ -206,6 +183,7 @@ fn unmatched(
 
 // Rows 11 to 15 and 0, on a sound table by the clock used.
 fn on_segment(
+    version: Version,
     table: &[u8],
     places: usize,
     clock: u64,
@@ -213,33 +191,31 @@ fn on_segment(
     flow: Flow,
     segment: Segment,
 ) -> Decision
-    requires { ⌜ (places ≡ placesIn (now table)) × (placeAt places ≤ length (now table)) × (clock < 2 ^ 48) ⌝ }
-    ensures { λ r. ⌜ r ≡ decisionOf (onSegment (now (table .entry)) clock side flow segment) ⌝ }
+    requires { ⌜ (placeAt version places ≤ length (now table)) × (clock < 2 ^ 48) ⌝ }
+    ensures { λ r. ⌜ r ≡ decisionOf (onSegment connections (viewOf version (now (table .entry)) places) clock side flow segment) ⌝ }
 {
-    let from = source(flow);
-    let to = destination(flow);
-    let found = find(table, places, clock, side, from, to);
+    let found = find(version, table, places, clock, side, flow);
     match found {
-        Found::At(place) => on_entry(load(table, place), place, clock, side, flow, segment),
-        Found::Nothing => unmatched(table, places, clock, side, flow, segment),
+        Found::At(place) => on_entry(load(version, table, place), place, clock, side, segment),
+        Found::Nothing => unmatched(version, table, places, clock, side, flow, segment),
     }
 }
 
 // A pass stores the clock used and its entry; every other answer changes no byte.
-fn commit(table: &mut [u8], decision: Decision)
-    requires { ⌜ Fits (now table) decision ⌝ }
-    ensures { λ r. ⌜ now (table .exit) ≡ written (now (table .entry)) decision ⌝ }
+fn commit(version: Version, table: &mut [u8], decision: Decision)
+    requires { ⌜ Fits version (now table) decision ⌝ }
+    ensures { λ r. ⌜ now (table .exit) ≡ written version (now (table .entry)) decision ⌝ }
 {
     if decision.answer != 0 {
         return;
     }
     set_clock(table, decision.clock);
-    store(table, decision.place, decision.entry);
+    store(version, table, decision.place, decision.entry);
 }
 
-// Row 3: 64·(n+1) with n from 1 to 512.
-fn legal_length(n: usize) -> bool
-    ensures { λ r. ⌜ r ≡ legalLength n ⌝ }
+// Row 3: a header and n entries with n from 1 to 512.
+fn legal_length4(n: usize) -> bool
+    ensures { λ r. ⌜ r ≡ legalLength Version.V4 n ⌝ }
 {
     if n < 128 {
         return false;
@@ -249,6 +225,39 @@ fn legal_length(n: usize) -> bool
         return false;
     }
     n <= 32_832
+}
+
+fn legal_length6(n: usize) -> bool
+    ensures { λ r. ⌜ r ≡ legalLength Version.V6 n ⌝ }
+{
+    if n < 160 {
+        return false;
+    }
+    let entries = n - 64;
+    if entries % 96 != 0 {
+        return false;
+    }
+    n <= 49_216
+}
+
+fn legal_length(version: Version, n: usize) -> bool
+    ensures { λ r. ⌜ r ≡ legalLength version n ⌝ }
+{
+    match version {
+        Version::V4 => legal_length4(n),
+        Version::V6 => legal_length6(n),
+    }
+}
+
+// How many entries a table of n bytes has.
+fn places_for(version: Version, n: usize) -> usize
+    requires { ⌜ headerSize ≤ n ⌝ }
+    ensures { λ r. ⌜ r ≡ placesFor version n ⌝ }
+{
+    match version {
+        Version::V4 => (n - 64) / 64,
+        Version::V6 => (n - 64) / 96,
+    }
 }
 
 // The larger of the clock given and the header's.
@@ -264,20 +273,35 @@ fn clock_used(table: &[u8], given: u64) -> u64
 }
 
 // Rows 5 to 15 and 0, on a sound table by the clock used.
-fn on_packet(table: &[u8], places: usize, clock: u64, side: u8, packet: &[u8]) -> Decision
-    requires { ⌜ (places ≡ placesIn (now table)) × (placeAt places ≤ length (now table)) × (clock < 2 ^ 48) ⌝ }
-    ensures { λ r. ⌜ r ≡ decisionOf (onPacket (readPacket (now (packet .entry))) (now (table .entry)) clock side) ⌝ }
+fn on_packet(
+    version: Version,
+    table: &[u8],
+    places: usize,
+    clock: u64,
+    side: u8,
+    packet: &[u8],
+) -> Decision
+    requires { ⌜ (placeAt version places ≤ length (now table)) × (clock < 2 ^ 48) ⌝ }
+    ensures { λ r. ⌜ r ≡ decisionOf (onPacket (readPacket version (now (packet .entry))) (viewOf version (now (table .entry)) places) clock side) ⌝ }
 {
-    let read = read_packet(packet);
+    let read = read_packet(version, packet);
     match read {
         PacketRead::Refused(cause) => blocked(cause.number()),
-        PacketRead::Tcp(flow, segment) => on_segment(table, places, clock, side, flow, segment),
+        PacketRead::Tcp(flow, segment) => on_segment(
+            version,
+            table,
+            places,
+            clock,
+            side,
+            flow,
+            segment,
+        ),
     }
 }
 
 // Rows 1 to 4, then the packet: the first line that applies wins.
-fn decide(side: u8, clock: u64, table: &[u8], packet: &[u8]) -> Decision
-    ensures { λ r. ⌜ r ≡ decisionOf (outcomeOf side clock (now (table .entry)) (now (packet .entry))) ⌝ }
+fn decide(version: Version, side: u8, clock: u64, table: &[u8], packet: &[u8]) -> Decision
+    ensures { λ r. ⌜ r ≡ decisionOf (outcomeOf version side clock (now (table .entry)) (now (packet .entry))) ⌝ }
 {
     if 1 < side {
         return blocked(1);
@@ -285,23 +309,23 @@ fn decide(side: u8, clock: u64, table: &[u8], packet: &[u8]) -> Decision
     if 281_474_976_710_656 <= clock {
         return blocked(2);
     }
-    if !legal_length(table.len()) {
+    if !legal_length(version, table.len()) {
         return blocked(3);
     }
-    let places = (table.len() - 64) / 64;
-    if !sound(table, places) {
+    let places = places_for(version, table.len());
+    if !sound(version, table, places) {
         return blocked(4);
     }
     let used = clock_used(table, clock);
-    on_packet(table, places, used, side, packet)
+    on_packet(version, table, places, used, side, packet)
 }
 
 // One call: the answer and the place, and the table that it leaves.
-pub fn filter(side: u8, clock: u64, table: &mut [u8], packet: &[u8]) -> Reply
-    ensures { λ r. ⌜ (r ≡ replyOf (outcomeOf side clock (now (table .entry)) (now (packet .entry)))) × (now (table .exit) ≡ tableAfter (now (table .entry)) (outcomeOf side clock (now (table .entry)) (now (packet .entry)))) ⌝ }
+pub fn filter(version: Version, side: u8, clock: u64, table: &mut [u8], packet: &[u8]) -> Reply
+    ensures { λ r. ⌜ (r ≡ replyOf (outcomeOf version side clock (now (table .entry)) (now (packet .entry)))) × (now (table .exit) ≡ tableAfter version (now (table .entry)) (outcomeOf version side clock (now (table .entry)) (now (packet .entry)))) ⌝ }
 {
-    let decision = decide(side, clock, table, packet);
-    commit(table, decision);
+    let decision = decide(version, side, clock, table, packet);
+    commit(version, table, decision);
     Reply {
         answer: decision.answer,
         place: decision.place,

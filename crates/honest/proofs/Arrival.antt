@@ -21,7 +21,6 @@ use Rattle.history.specs.History.{LineSegment, numbersOf, onWire, judge, Holds}
 use Rattle.history.proofs.Step.{Near, start-near, ack-near, ackRange-small}
 use Rattle.history.proofs.Verdict.{Unanswered, Answered, spans, judged-answered, judged-unanswered}
 use Rattle.history.proofs.Pass.{carried-holds, carried-answered, repeated-holds, repeated-unanswered, answered-holds, answered-answered, answerer-begins}
-use Rattle.honest.specs.Keys.{Keys}
 use Rattle.honest.specs.Rules.{Event, Pair, InOrder}
 use Rattle.honest.proofs.Sends.{SentWith, First, Fact, Protocol, rises-more}
 use Rattle.honest.proofs.Bounds as Bounds
@@ -53,11 +52,11 @@ passed-renewed c i g now no-reset =
 
 -- Where the connection stands: only the opener's SYN has passed, or both ends' have
 
-pub data Heard {K : Keys} (P : Pair K) (h : List LineSegment) : Type 0 where
+pub data Heard (P : Pair) (h : List LineSegment) : Type 0 where
   quiet : Unanswered h → P .start 0 + 1 ≤ numbersOf 0 h .end → Heard P h
   both : Answered h → ((i : ℕ) → i < 2 → P .start i + 1 ≤ numbersOf i h .end) → Heard P h
 
-module _ {K : Keys} {Call : Type 0} (P : Pair K) (h : List LineSegment) (Arrived : ℕ → LineSegment → Type 0) (L : List (Event Call)) (inv : Protocol P h Arrived L) (c : Connection) (holds : Holds c h) (k : ℕ) (p : LineSegment) (s : ℕ) (sent : SentWith k p s L) where
+module _ {Call : Type 0} (P : Pair) (h : List LineSegment) (Arrived : ℕ → LineSegment → Type 0) (L : List (Event Call)) (inv : Protocol P h Arrived L) (c : Connection) (holds : Holds c h) (k : ℕ) (p : LineSegment) (s : ℕ) (sent : SentWith k p s L) where
   fact : Fact P h p s L
   fact = inv .facts k p s sent
 

@@ -1,6 +1,6 @@
 -- A list of events over the filter can be checked to be legal by computation.
 use Prim.Native.Nat.{ℕ, _+_, _-_, _<_, _≤_, max}
-use mathlib.Core.Path.{_≡_, sym, ap, _∙_}
+use mathlib.Core.Path.{_≡_, refl, sym, ap, _∙_}
 use mathlib.Core.Logic.{_⊎_, inl, inr, ⊎-elim}
 use mathlib.Core.Bool.{Bool, true, false, _&&_, _||_, not}
 use mathlib.Core.List.{List, [], _∷_}
@@ -12,13 +12,17 @@ use Rattle.segment.specs.Flags.{syn, rst, ack, SYN, SYN+ACK}
 use Rattle.segment.specs.declared.Segment.{Segment}
 use Rattle.connection.specs.Ranges.{widest}
 use Rattle.history.specs.History.{LineSegment, onWire, Formed}
-use Rattle.honest.specs.Keys.{Keys}
-use Rattle.honest.specs.Rows.{Table, Ask, search}
-use Rattle.honest.specs.Connections.{connections}
+use Rattle.address.specs.Flows.{sameFlow}
+use Rattle.address.proofs.Flows.{same-true}
+use Rattle.rows.specs.Rows as rows
+use Rattle.rows.specs.Rows.{View, Ask}
+use Rattle.rows.specs.declared.Found.{Found}
+use Rattle.rows.specs.declared.Found.the-variants.{At, Nothing}
+use Rattle.rows.specs.Connections.{connections}
 use Rattle.honest.specs.Machine.{asks, Machine}
 use Rattle.honest.specs.Rules.{Label, opening, arrival, other, Is, Event, send, call, delivery, Pair, sentBy, Sent, Arrived, InOrder, receivedBy, highest, some, ackOf, edgeOf, endOf, answered, sideOf, keyOf, FirstSegment, LaterSegment, Honest, first, later}
 use Rattle.honest.specs.Honest.{told, passes, Live, said, Passed, Arrives, Opening, Arrival, FairCall, Fair, Legal}
-use Rattle.honest.specs.Instance.{ListCall, listMachine}
+use Rattle.honest.specs.Instance.{ViewCall, viewMachine}
 
 -- Tests with what they show
 
@@ -57,6 +61,10 @@ atMost m n = record { holds = m ≤ᵇ n; shows = leb-true m n }
 abbrev below : (m n : ℕ) → Test (m < n)
 below m n = record { holds = m <ᵇ n; shows = ltb-true m n }
 
+abbrev nothing : (r : Found) → Test (r ≡ Nothing)
+nothing Nothing = yes refl
+nothing (At p) = no
+
 -- asked only where the first holds
 pub if-shows : {A : Type 0} (b : Bool) (t : Test A) → not b || t .holds ≡ true → b ≡ true → A
 if-shows true t e _ = t .shows e
@@ -89,12 +97,12 @@ pub one-more :
 one-more i k n p this before j g (inl (same, is)) of-i = rw same (this (ap (λ (x : LineSegment). x .from) (sym is) ∙ of-i))
 one-more i k n p this before j g (inr was) of-i = before j g was of-i
 
-module _ {K : Keys} (t₀ : Table K connections) (P : Pair K) where
-  abbrev M : Machine K
-  M = listMachine K
+module _ (t₀ : View connections) (P : Pair) where
+  abbrev M : Machine
+  M = viewMachine (λ p. p)
 
   abbrev Seen : Type 0
-  Seen = List (Event (ListCall K))
+  Seen = List (Event ViewCall)
 
   abbrev firstSegment : (p : LineSegment) → Test (FirstSegment P p)
   firstSegment p =
@@ -123,18 +131,18 @@ module _ {K : Keys} (t₀ : Table K connections) (P : Pair K) where
   wasSent k p (call q l ∷ L) = wasSent k p L
   wasSent k p (delivery j g ∷ L) = wasSent k p L
 
-  abbrev arrives : (k : ℕ) (p : LineSegment) (q : ListCall K) (L : Seen) → Test (Arrives M P k p q L)
+  abbrev arrives : (k : ℕ) (p : LineSegment) (q : ViewCall) (L : Seen) → Test (Arrives M P k p q L)
   arrives k p q L =
       so (λ h. record { sent = h .0; clock = q .0 .clock; brings = λ i. asks (record { side = h .1 .0 i; clock = q .0 .clock; key = h .1 .1 .0 i; segment = h .1 .1 .1 i }) })
       (both (wasSent k p L)
-      (both (equal (q .0 .side) (sideOf P (p .from))) (both (so (K .same-true (q .0 .key) (keyOf P (p .from))) (isTrue (K .same (q .0 .key) (keyOf P (p .from))))) (sameSegment (q .0 .segment) (onWire p)))))
+      (both (equal (q .0 .side) (sideOf P (p .from))) (both (so (same-true (q .0 .key) (keyOf P (p .from))) (isTrue (sameFlow (q .0 .key) (keyOf P (p .from))))) (sameSegment (q .0 .segment) (onWire p)))))
 
   pub finds-none :
-      (b : Ask K) (t : Table K connections) → search K connections t b ≡ length (t .entries) → (a : Ask K) → asks b ≡ asks a →
-      search K connections t a ≡ length (t .entries)
+      (b : Ask) (v : View connections) → rows.search connections v (rows.clockUsed connections v b) (b .side) (b .key) ≡ Nothing →
+      (a : Ask) → asks b ≡ asks a → rows.search connections v (rows.clockUsed connections v a) (a .side) (a .key) ≡ Nothing
   finds-none b t unfound a is = let same : b ≡ a = cc in rw same at unfound
 
-  abbrev opens : (k : ℕ) (p : LineSegment) (q : ListCall K) (L : Seen) → Test (Opening M t₀ P k p q L)
+  abbrev opens : (k : ℕ) (p : LineSegment) (q : ViewCall) (L : Seen) → Test (Opening M t₀ P k p q L)
   opens k p q L =
       so (λ h. record {
         first-one = h .0;
@@ -146,9 +154,9 @@ module _ {K : Keys} (t₀ : Table K connections) (P : Pair K) where
       (both (isFalse (told M t₀ L .opened))
       (both (arrives k p q L)
       (both (equal (p .from) 0)
-      (both (equal (search K connections (told M t₀ L .state) (q .0)) (length (told M t₀ L .state .entries))) (isTrue (passes M (told M t₀ L) q))))))
+      (both (nothing (rows.search connections (told M t₀ L .state) (rows.clockUsed connections (told M t₀ L .state) (q .0)) (q .0 .side) (q .0 .key))) (isTrue (passes M (told M t₀ L) q))))))
 
-  abbrev isLive : (q : ListCall K) (L : Seen) → Test (Live M t₀ q L)
+  abbrev isLive : (q : ViewCall) (L : Seen) → Test (Live M t₀ q L)
   isLive q L = below (max (q .0 .clock) (told M t₀ L .passClock)) (told M t₀ L .until)
 
   -- no later sending of end i has arrived
@@ -160,13 +168,13 @@ module _ {K : Keys} (t₀ : Table K connections) (P : Pair K) where
   inOrder i k (call q other ∷ L) = so (λ h j g was. ⊎-elim (λ never. absurd never) (h j g) was) (inOrder i k L)
   inOrder i k (delivery n p ∷ L) = inOrder i k L
 
-  abbrev comes : (k : ℕ) (p : LineSegment) (q : ListCall K) (L : Seen) → Test (Arrival M t₀ P k p q L)
+  abbrev comes : (k : ℕ) (p : LineSegment) (q : ViewCall) (L : Seen) → Test (Arrival M t₀ P k p q L)
   comes k p q L =
       so (λ h. record { after-opening = h .0; arrives = h .1 .0; in-order = h .1 .1 .0; live = h .1 .1 .1 })
       (both (isTrue (told M t₀ L .opened)) (both (arrives k p q L) (both (inOrder (p .from) k L) (isLive q L))))
 
   -- refused, or passed elsewhere, or once the connection has expired, or before it was opened
-  abbrev elsewhere : (q : ListCall K) (L : Seen) → Test (FairCall M t₀ P other q L)
+  abbrev elsewhere : (q : ViewCall) (L : Seen) → Test (FairCall M t₀ P other q L)
   elsewhere q L =
       so (λ h opened-t live passed-t same.
       ⊎-elim (λ f. false-true (sym f ∙ opened-t))
@@ -174,7 +182,7 @@ module _ {K : Keys} (t₀ : Table K connections) (P : Pair K) where
       (⊎-elim (λ f. false-true (sym f ∙ passed-t)) (λ f. false-true (sym f ∙ eq-eqb _ _ same)))) h)
       (either (isFalse (told M t₀ L .opened)) (either (isFalse (isLive q L .holds)) (either (isFalse (passes M (told M t₀ L) q)) (isFalse (said M t₀ L q .place =ᵇ told M t₀ L .place)))))
 
-  abbrev fairCall : (l : Label) (q : ListCall K) (L : Seen) → Test (FairCall M t₀ P l q L)
+  abbrev fairCall : (l : Label) (q : ViewCall) (L : Seen) → Test (FairCall M t₀ P l q L)
   fairCall (opening k p) q L = opens k p q L
   fairCall (arrival k p) q L = comes k p q L
   fairCall other q L = elsewhere q L
@@ -190,7 +198,7 @@ module _ {K : Keys} (t₀ : Table K connections) (P : Pair K) where
   hasPassed k p (call q l ∷ L) = either (both (isLabel l k p) (isTrue (passes M (told M t₀ L) q))) (hasPassed k p L)
   hasPassed k p (delivery j g ∷ L) = hasPassed k p L
 
-  abbrev fair : (x : Event (ListCall K)) (L : Seen) → Test (Fair M t₀ P x L)
+  abbrev fair : (x : Event ViewCall) (L : Seen) → Test (Fair M t₀ P x L)
   fair (send p) L = so (λ h. (h .0, h .1 .0, h .1 .1)) (both (below (p .from) 2) (both (formed p) (honest p L)))
   fair (call q l) L = fairCall l q L
   fair (delivery k p) L = hasPassed k p L
@@ -199,8 +207,8 @@ module _ {K : Keys} (t₀ : Table K connections) (P : Pair K) where
   checked [] = yes tt
   checked (x ∷ L) = both (fair x L) (checked L)
 
-  abbrev pub legal? : List (Event (ListCall K)) → Bool
+  abbrev pub legal? : List (Event ViewCall) → Bool
   legal? L = checked L .holds
 
-  pub legal?-sound : (L : List (Event (ListCall K))) → legal? L ≡ true → Legal M t₀ P L
+  pub legal?-sound : (L : List (Event ViewCall)) → legal? L ≡ true → Legal M t₀ P L
   legal?-sound L e = checked L .shows e

@@ -1,109 +1,157 @@
 -- Demand 2 over lists of calls: the table's answers, places and entries are those of the histories.
 use Prim.Native.Nat.{ℕ, _+_, _<_}
-use mathlib.Core.Path.{_≡_, refl, sym, ap, _∙_}
-use mathlib.Core.Bool.{true}
+use mathlib.Core.Path.{_≡_, refl, sym, ap, subst, _∙_}
+use mathlib.Core.Bool.{true, false}
+use mathlib.Core.Logic.{_⊎_, inl, inr}
 use mathlib.Core.List.{List, [], _∷_}
 use native.Mathlib.Omega.{arith}
-use lib.ListN.{length-replicate, getD-replicate}
-use borrow.Author.Tests.{eqb-true}
+use borrow.Author.Tests.{eqb-true, eqb-false}
 use Rattle.choice.specs.Choice.{_=ᵇ_}
-use Rattle.choice.proofs.Tests.{&&-true}
+use Rattle.choice.proofs.Choice.{if-true, if-both}
+use Rattle.choice.proofs.Tests.{&&-true, true-or-false}
 use Rattle.segment.specs.Flags.{rst, SYN}
 use Rattle.segment.specs.declared.Segment.{Segment}
 use Rattle.connection.specs.Stages.{lifeOf}
 use Rattle.connection.specs.Decision.{verdictOn, passed, opened}
 use Rattle.connection.specs.declared.Connection.{Connection}
 use Rattle.connection.specs.declared.Verdict.the-variants.{Pass}
-use Rattle.history.specs.History.{LineSegment, placed, judge, Holds, Placeable}
-use Rattle.history.proofs.Demand2.{Reached, judged, pass-holds, holds-first, reached-first}
-use Rattle.honest.specs.Keys.{Keys}
-use Rattle.honest.specs.Rows.{Ask, opens, Entry, Table, freeEntry, filter}
-use Rattle.honest.specs.Connections.{connections}
-use Rattle.honest.specs.Histories.{grown, histories, HoldsOrFree, Stands}
+use Rattle.history.specs.Numbers.{onRing}
+use Rattle.history.specs.History.{LineSegment, numbersOf, finsOf, stageOf, placed, judge, Holds, Placeable}
+use Rattle.history.proofs.Demand2.{Reached, unanswered, answered, judged, pass-holds, holds-first, reached-first}
+use Rattle.address.specs.declared.Flow.{Flow}
+use Rattle.rows.specs.Rows.{Ask, opens, Entry, freeEntry, entryWith, entryAfter, openingEntry, filter}
+use Rattle.rows.specs.Connections.{connections}
+use Rattle.honest.specs.Histories.{History, grown, histories, recordsOf, connectionOf}
 use Rattle.honest.specs.Demand2.{fresh, tableAfter, AllPlaceable, Demand2}
 use Rattle.honest.proofs.Arrival.{passed-renewed}
-use Rattle.honest.proofs.Simulation.{Agreeing, Related, SameReply, filter-same}
+use Rattle.honest.proofs.SoundKept.{reset-frees}
+use Rattle.honest.proofs.Simulation.{Agreeing, Related, answer-alike, place-alike, after-alike, filter-same}
 
--- a live entry is not free
-live-holds : (c : Connection) (h : List LineSegment) → HoldsOrFree c h → 0 < c .deadline → Holds c h
-live-holds c [] is live-now = absurd (omega (arith, ap (λ (x : Connection). x .deadline) is))
-live-holds c (p ∷ h) holds live-now = holds
+never : {A : Type 0} → Reached [] → A
+unfolding numbersOf
+never (unanswered u turned) = absurd (omega (arith, turned))
+never (answered a turned) = absurd (omega (arith, turned 0 (omega arith)))
 
-module _ {K : Keys} where
-  -- an entry stands for one with a history, and that of a live one was reached
-  abbrev StandsReached : Entry K connections → Entry K histories → Type 0
-  StandsReached e f = Stands e f × (0 < f .connection .deadline → Reached (f .connection .segments))
+-- a history that was reached is not empty, and what the table has for it holds it
+reached-holds : (h : History) → Reached (h .segments) → Holds (connectionOf h) (h .segments)
+reached-holds h r = record { stage = refl; fins = refl; ends = go (h .segments) r }
+  where
+    go : (l : List LineSegment) → Reached l → recordsOf l ≡ onRing (numbersOf 0 l) ∷ onRing (numbersOf 1 l) ∷ []
+    go [] none = never none
+    go (p ∷ l) some = refl
 
-  -- an opening
-  made-stands :
-      (a : Ask K) (now : ℕ) → Placeable (a .segment) → opens K a ≡ true →
-      StandsReached (record { key = a .key; connection = opened (a .side) (a .segment) now }) (record { key = a .key; connection = grown (a .side) (placed [] 0 (a .segment) ∷ []) now })
-  unfolding opened
-  made-stands a now placeable opening =
-      let a-syn : a .segment .flags ≡ SYN = eqb-true _ _ (&&-true (a .side =ᵇ 0) (a .segment .flags =ᵇ SYN) opening .1) in
-      let holds = holds-first (a .side) (a .segment) now placeable a-syn in (
-        record { key = refl; side = refl; deadline = ap (λ (s : ℕ). now + lifeOf s) (holds .stage); numbers = holds },
-        λ _. reached-first (a .side) (a .segment) now placeable a-syn,
-      )
+-- a history with a reset on top has stage 0
+reset-stage : (h : List LineSegment) (i : ℕ) (g : Segment) → rst (g .flags) =ᵇ 1 ≡ true → stageOf (placed h i g ∷ h) ≡ 0
+unfolding stageOf
+reset-stage h i g reset = if-true _ _ _ reset
 
-  -- a pass on a live entry
-  module _ {e : Entry K connections} {f : Entry K histories} (i : ℕ) (g : Segment) (r : StandsReached e f) (live-now : 0 < e .connection .deadline) (known : i < 2) (placeable : Placeable g) where
-    holds : Holds (e .connection) (f .connection .segments)
-    holds = live-holds _ _ (r .0 .numbers) live-now
+abbrev entryOf : Entry histories → Entry connections
+entryOf f = record { key = f .key; connection = connectionOf (f .connection) }
 
-    reached : Reached (f .connection .segments)
-    reached = r .1 (omega (arith, r .0 .deadline))
+-- an entry has the numbers of a history, and that of a live one was reached
+record Stands (e : Entry connections) (f : Entry histories) : Type 0 where
+  is : e ≡ entryOf f
+  reached : 0 < f .connection .deadline → Reached (f .connection .segments)
 
-    verdict-same : verdictOn (e .connection) i g ≡ judge (f .connection .segments) (placed (f .connection .segments) i g)
-    verdict-same = judged (e .connection) (f .connection .segments) holds reached (record { sender = i; segment = g; now = 0 }) record { sender-known = known; placeable = placeable }
+-- from what it holds
+stands-by :
+    (k : Flow) (c : Connection) (h : History) → c .side ≡ h .side → c .deadline ≡ h .deadline → Holds c (h .segments) →
+    Reached (h .segments) → Stands (record { key = k; connection = c }) (record { key = k; connection = h })
+stands-by k c h side deadline holds reached = record {
+  is = λ i. record { key = k; connection = record { stage = holds .stage i; side = side i; fins = holds .fins i; deadline = deadline i; ends = (holds .ends ∙ sym (reached-holds h reached .ends)) i } };
+  reached = λ _. reached;
+}
 
-    passed-stands :
-        (now : ℕ) → verdictOn (e .connection) i g ≡ Pass → (rst (g .flags) ≡ 1 → ⊥) →
-        StandsReached (record { key = e .key; connection = passed (e .connection) i g now }) (record { key = f .key; connection = grown (f .connection .side) (placed (f .connection .segments) i g ∷ f .connection .segments) now })
-    passed-stands now passes no-reset =
-        let after = pass-holds (e .connection) (f .connection .segments) holds reached (record { sender = i; segment = g; now = now }) record { sender-known = known; placeable = placeable } no-reset (sym verdict-same ∙ passes) in
-        let renewed = passed-renewed (e .connection) i g now no-reset in (
-          record { key = r .0 .key; side = renewed .side ∙ r .0 .side; deadline = renewed .deadline ∙ ap (λ (s : ℕ). now + lifeOf s) (after .0 .stage); numbers = after .0 },
-          λ _. after .1,
-        )
+-- an opening
+made-stands :
+    (now side : ℕ) (k : Flow) (g : Segment) → Placeable g → opens side g ≡ true →
+    Stands (openingEntry connections now side k g) (openingEntry histories now side k g)
+unfolding openingEntry opened
+made-stands now side k g placeable opening =
+    let a-syn : g .flags ≡ SYN = eqb-true _ _ (&&-true (side =ᵇ 0) (g .flags =ᵇ SYN) opening .1) in
+    let holds = holds-first side g now placeable a-syn in
+    stands-by k _ _ refl (ap (λ (s : ℕ). now + lifeOf s) (holds .stage)) holds (reached-first side g now placeable a-syn)
 
-  entries-agree : Agreeing StandsReached Placeable
-  entries-agree = record {
-    key = λ r. r .0 .key;
-    side = λ r. r .0 .side;
-    deadline = λ r. r .0 .deadline;
-    free = (record { key = refl; side = refl; deadline = refl; numbers = refl }, λ live-now. absurd (omega arith));
-    made = made-stands;
-    verdict = λ i g r live-now known placeable. verdict-same i g r live-now known placeable;
-    passed = λ i g now r live-now known placeable. passed-stands i g r live-now known placeable now;
-  }
+free-stands : Stands (freeEntry connections) (freeEntry histories)
+unfolding stageOf finsOf
+free-stands = record { is = refl; reached = λ live-now. absurd (omega arith) }
 
-  -- The lists
+-- a pass on a live entry
+module _ {e : Entry connections} {f : Entry histories} (i : ℕ) (g : Segment) (r : Stands e f) (live-now : 0 < e .connection .deadline) (known : i < 2) (placeable : Placeable g) where
+  reached : Reached (f .connection .segments)
+  reached = r .reached (omega (arith, ap (λ (x : Entry connections). x .connection .deadline) (r .is)))
 
-  fresh-related : (n : ℕ) → Related StandsReached (fresh K connections n) (fresh K histories n)
-  fresh-related n = record {
-    clock = refl;
-    places = rw (length-replicate n (freeEntry K connections), length-replicate n (freeEntry K histories));
-    entries = λ p inside. rw (getD-replicate n p (freeEntry K connections) (freeEntry K connections) (rw length-replicate at inside), getD-replicate n p (freeEntry K histories) (freeEntry K histories) (rw length-replicate at inside)) (entries-agree .free);
-  }
+  holds : Holds (e .connection) (f .connection .segments)
+  holds = subst (λ (x : Entry connections). Holds (x .connection) (f .connection .segments)) (sym (r .is)) (reached-holds (f .connection) reached)
 
-  call-same :
-      (t : Table K connections) (u : Table K histories) → Related StandsReached t u → (a : Ask K) → Placeable (a .segment) →
-      SameReply StandsReached (filter K connections t a) (filter K histories u a)
-  call-same = filter-same StandsReached Placeable entries-agree
+  verdict-same : verdictOn (e .connection) i g ≡ judge (f .connection .segments) (placed (f .connection .segments) i g)
+  verdict-same = judged (e .connection) (f .connection .segments) holds reached (record { sender = i; segment = g; now = 0 }) record { sender-known = known; placeable = placeable }
 
-  tables-related :
-      (n : ℕ) (l : List (Ask K)) → AllPlaceable l →
-      Related StandsReached (tableAfter K connections n l) (tableAfter K histories n l)
-  unfolding tableAfter AllPlaceable
-  tables-related n [] placeable = fresh-related n
-  tables-related n (a ∷ l) placeable = call-same _ _ (tables-related n l (placeable .1)) a (placeable .0) .table
+  passed-stands :
+      (now : ℕ) → verdictOn (e .connection) i g ≡ Pass → (rst (g .flags) ≡ 1 → ⊥) →
+      Stands (record { key = e .key; connection = passed (e .connection) i g now }) (record { key = f .key; connection = grown (f .connection .side) (placed (f .connection .segments) i g ∷ f .connection .segments) now })
+  passed-stands now passes no-reset =
+      let after = pass-holds (e .connection) (f .connection .segments) holds reached (record { sender = i; segment = g; now = now }) record { sender-known = known; placeable = placeable } no-reset (sym verdict-same ∙ passes) in
+      let renewed = passed-renewed (e .connection) i g now no-reset in
+      subst (λ (k : Flow). Stands (record { key = k; connection = passed (e .connection) i g now }) (record { key = f .key; connection = grown (f .connection .side) (placed (f .connection .segments) i g ∷ f .connection .segments) now }))
+      (sym (ap (λ (x : Entry connections). x .key) (r .is)))
+      (stands-by (f .key) _ _ (renewed .side ∙ ap (λ (x : Entry connections). x .connection .side) (r .is)) (renewed .deadline ∙ ap (λ (s : ℕ). now + lifeOf s) (after .0 .stage)) (after .0) (after .1))
 
-pub demand2 : (K : Keys) → Demand2 K
-demand2 K n l placeable =
+  -- a pass frees both or neither
+  stage-same : (now : ℕ) → verdictOn (e .connection) i g ≡ Pass → passed (e .connection) i g now .stage ≡ stageOf (placed (f .connection .segments) i g ∷ f .connection .segments)
+  stage-same now passes = go (true-or-false (rst (g .flags) =ᵇ 1))
+    where
+      go :
+          (rst (g .flags) =ᵇ 1 ≡ true) ⊎ (rst (g .flags) =ᵇ 1 ≡ false) →
+          passed (e .connection) i g now .stage ≡ stageOf (placed (f .connection .segments) i g ∷ f .connection .segments)
+      go (inl reset) =
+          ap (λ (c : Connection). c .stage) (reset-frees (e .connection) i g now (eqb-true _ _ reset))
+          ∙ sym (reset-stage (f .connection .segments) i g reset)
+      go (inr none) = ap (λ (x : Entry connections). x .connection .stage) (passed-stands now passes (eqb-false _ _ none) .is)
+
+  after-stands :
+      (now : ℕ) → verdictOn (e .connection) i g ≡ Pass →
+      Stands (entryAfter connections e i g now) (entryAfter histories f i g now)
+  unfolding entryWith
+  after-stands now passes =
+      if-both Stands _ _ _ _ _ _ (ap (λ (n : ℕ). n =ᵇ 0) (stage-same now passes)) (λ _. free-stands)
+      (λ in-use. passed-stands now passes (λ reset.
+      eqb-false _ _ in-use (ap (λ (c : Connection). c .stage) (reset-frees (e .connection) i g now reset))))
+
+entries-agree : Agreeing Stands Placeable
+entries-agree = record {
+  key = λ r. ap (λ (x : Entry connections). x .key) (r .is);
+  side = λ r. ap (λ (x : Entry connections). x .connection .side) (r .is);
+  deadline = λ r. ap (λ (x : Entry connections). x .connection .deadline) (r .is);
+  free = free-stands;
+  made = made-stands;
+  verdict = λ i g r live-now known placeable. verdict-same i g r live-now known placeable;
+  passed = λ i g now r live-now known placeable. after-stands i g r live-now known placeable now;
+}
+
+-- The lists
+
+fresh-related : (n : ℕ) → Related Stands (fresh connections n) (fresh histories n)
+fresh-related n = record { clock = refl; places = refl; entries = λ p. free-stands }
+
+tables-related :
+    (n : ℕ) (l : List Ask) → AllPlaceable l →
+    Related Stands (tableAfter connections n l) (tableAfter histories n l)
+unfolding tableAfter AllPlaceable
+tables-related n [] placeable = fresh-related n
+tables-related n (a ∷ l) placeable =
+    let before = tables-related n l (placeable .1) in
+    let t = tableAfter connections n l in
+    let u = tableAfter histories n l in
+    after-alike Stands t u before (filter connections t a) (filter histories u a) (filter-same Stands Placeable entries-agree t u before a (placeable .0))
+
+pub demand2 : Demand2
+demand2 n l placeable =
     let related = tables-related n l placeable in
+    let t = tableAfter connections n l in
+    let u = tableAfter histories n l in
     record {
-      table = record { clock = related .clock; places = related .places; entries = λ p inside. related .entries p inside .0 };
-      answer = λ a legal. call-same _ _ related a legal .answer;
-      place = λ a legal. call-same _ _ related a legal .place;
+      table = λ i. record { clock = related .clock i; places = related .places i; entry = λ p. related .entries p .is i };
+      answer = λ a legal. answer-alike Stands (filter connections t a) (filter histories u a) (filter-same Stands Placeable entries-agree t u related a legal);
+      place = λ number a legal. place-alike Stands number (filter connections t a) (filter histories u a) (filter-same Stands Placeable entries-agree t u related a legal);
     }

@@ -5,7 +5,6 @@ use mathlib.Core.Logic.{_⊎_, inl, inr, ⊎-elim}
 use mathlib.Core.Bool.{Bool, true, false}
 use mathlib.Core.List.{List, [], _∷_}
 use native.Mathlib.Omega.{arith}
-use lib.ListN.{length}
 use borrow.Author.Tests.{eq-eqb, eqb-true, eqb-false}
 use Rattle.choice.specs.Choice.{if_then_else_}
 use Rattle.choice.proofs.Choice.{if-true, if-false, if-either, if-=-not}
@@ -18,26 +17,35 @@ use Rattle.connection.specs.declared.Verdict.the-variants.{Pass}
 use Rattle.history.specs.Numbers.{Numbers}
 use Rattle.history.specs.History.{LineSegment, onWire, stageOf, Holds, Formed}
 use Rattle.history.proofs.Pass.{opened-unanswered, opened-holds, opener-begins}
-use Rattle.honest.specs.Keys.{Keys}
-use Rattle.honest.specs.Rows.{Table, Ask, Reply, clockUsed, search, pass, entryAfter, matched, filter}
-use Rattle.honest.specs.Connections.{connections, SoundTable}
+use Rattle.rows.specs.Rows as rows
+use Rattle.rows.specs.Rows.{Ask, View, Entry, Passed as Passes, clockUsed, senderOf, entryWith, entryAfter, onEntry, filter, answerOf, placeBy, after}
+use Rattle.rows.specs.Connections.{connections}
+use Rattle.rows.specs.declared.Found.the-variants.{Nothing}
+use Rattle.rows.proofs.Rows.{onSegment-by-search, onEntry-by-verdict}
+use Rattle.honest.specs.Sound.{SoundView}
 use Rattle.honest.specs.Machine.{Reading, refused, asks, apart, Machine, clockIn, KeepsTo}
 use Rattle.honest.specs.Rules.{Label, opening, arrival, other, Event, send, call, delivery, Pair, sideOf, keyOf, Sent, Arrived, receivedBy, answered, Honest}
 use Rattle.honest.specs.Honest.{Told, passes, nextClock, afterSegment, afterCall, told, said, Passed, Opening, Arrival, FairCall, Legal, NeverBlocked, Demand3}
 use Rattle.honest.proofs.Lists.{In}
 use Rattle.honest.proofs.Sends.{SentWith, sent-with, First, Later, Fact, first-facts, Protocol, answered-in, protocol-sent, protocol-delivered, protocol-called, protocol-passed}
-use Rattle.honest.proofs.Table.{OurEntry, OthersExpired, AskOf, arrival-found, opening-made, pass-elsewhere, pass-on-ours, pass-clock, filter-matched}
+use Rattle.honest.proofs.Table.{OurEntry, OthersExpired, ours, AskOf, arrival-found, opening-made, pass-elsewhere, pass-on-ours, pass-clock}
 use Rattle.honest.proofs.Arrival.{Heard, quiet, passing, passed-renewed, opened-renewed}
 
-module _ {K : Keys} (M : Machine K) (Sound : M .State → Type 0) (keeps : KeepsTo K M Sound) (s₀ : M .State) (P : Pair K) (known : P .side ≤ 1) where
+-- a stage with a life is not that of a free entry
+in-use-stage : (stage : ℕ) → 1 ≤ lifeOf stage → stage ≡ 0 → ⊥
+unfolding lifeOf if_then_else_
+in-use-stage stage life free = absurd (omega (arith, life, ap lifeOf free))
+
+module _ (M : Machine) (Sound : M .State → Type 0) (keeps : KeepsTo M Sound) (s₀ : M .State) (P : Pair) (known : P .side ≤ 1) where
   -- the entry is there as the history has it, and no other of the pair is live
   pub record Alive (t : Told M) (c : Connection) : Type 0 where
-    pub ours : OurEntry P (M .view (t .state)) (t .place) c
-    pub others : OthersExpired P (M .view (t .state)) (t .place)
+    pub place : ℕ
+    pub numbered : M .number place ≡ t .place
+    pub ours : OurEntry P (M .view (t .state)) place c
+    pub others : OthersExpired P (M .view (t .state)) place
     pub holds : Holds c (t .passed)
     pub heard : Heard P (t .passed)
     pub told-early : t .until ≤ c .deadline
-    pub first-early : M .view s₀ .clock < c .deadline
 
   pub data Phase (t : Told M) : Type 0 where
     before : t .opened ≡ false → t .passed ≡ [] → Phase t
@@ -46,7 +54,7 @@ module _ {K : Keys} (M : Machine K) (Sound : M .State → Type 0) (keeps : Keeps
 
   pub record Table-kept (t : Told M) : Type 0 where
     pub sound : Sound (t .state)
-    pub clock : M .view (t .state) .clock ≡ max (M .view s₀ .clock) (t .passClock)
+    pub clock : M .view (t .state) .clock ≡ t .passClock
     pub phase : Phase t
 
   pub record Inv (L : List (Event (M .Call))) : Type 0 where
@@ -75,13 +83,13 @@ module _ {K : Keys} (M : Machine K) (Sound : M .State → Type 0) (keeps : Keeps
 
     -- one that asks and passes is answered by the filter
     pub record Asked : Type 0 where
-      pub ask : Ask K
+      pub ask : Ask
       pub read : M .reads q ≡ asks ask
-      pub answer : filter K connections (M .view (t .state)) ask .answer ≡ 0
-      pub place : M .run (t .state) q .place ≡ filter K connections (M .view (t .state)) ask .place
-      pub table : M .view (M .run (t .state) q .next) ≡ filter K connections (M .view (t .state)) ask .table
+      pub answer : answerOf connections (filter connections (M .view (t .state)) ask) ≡ 0
+      pub place : M .run (t .state) q .place ≡ placeBy (M .number) (filter connections (M .view (t .state)) ask)
+      pub table : M .view (M .run (t .state) q .next) ≡ after connections (M .view (t .state)) (filter connections (M .view (t .state)) ask)
 
-    asked : (a : Ask K) → M .reads q ≡ asks a → passes M t q ≡ true → Asked
+    asked : (a : Ask) → M .reads q ≡ asks a → passes M t q ≡ true → Asked
     asked a is e = record {
       ask = a;
       read = is;
@@ -91,9 +99,9 @@ module _ {K : Keys} (M : Machine K) (Sound : M .State → Type 0) (keeps : Keeps
     }
 
     -- the header clock is the largest clock used at a pass
-    clock-after : Asked → passes M t q ≡ true → M .view (M .run (t .state) q .next) .clock ≡ max (M .view s₀ .clock) (nextClock M t q)
+    clock-after : Asked → passes M t q ≡ true → M .view (M .run (t .state) q .next) .clock ≡ nextClock M t q
     clock-after x e =
-        let used = ap (λ (b : Table K connections). b .clock) (x .table) ∙ pass-clock P (M .view (t .state)) (x .ask) (x .answer) in
+        let used = ap (λ (b : View connections). b .clock) (x .table) ∙ pass-clock P (M .view (t .state)) (x .ask) (x .answer) in
         let given = ap (clockIn) (x .read) in
         let next : nextClock M t q ≡ max (clockIn (M .reads q)) (t .passClock) = if-true _ _ _ e in
         omega (arith, used, given, next, kept .clock)
@@ -108,19 +116,20 @@ module _ {K : Keys} (M : Machine K) (Sound : M .State → Type 0) (keeps : Keeps
     unmoved-phase same clock (before closed none) = before closed none
     unmoved-phase same clock (dead opened-t late) = dead opened-t (omega (arith, late, clock))
     unmoved-phase same clock (alive opened-t c al) = alive opened-t c record {
+      place = al .place;
+      numbered = al .numbered;
       ours = rw same (al .ours);
       others = rw same (al .others);
       holds = al .holds;
       heard = al .heard;
       told-early = al .told-early;
-      first-early = al .first-early;
     }
 
     unmoved : M .view (M .run (t .state) q .next) ≡ M .view (t .state) → nextClock M t q ≡ t .passClock → Table-kept (afterCall M t q other)
     unfolding afterCall
     unmoved same clock = record {
       sound = keeps .sound-kept (t .state) q (kept .sound);
-      clock = omega (arith, ap (λ (b : Table K connections). b .clock) same, clock, kept .clock);
+      clock = omega (arith, ap (λ (b : View connections). b .clock) same, clock, kept .clock);
       phase = unmoved-phase same clock (kept .phase);
     }
 
@@ -129,11 +138,11 @@ module _ {K : Keys} (M : Machine K) (Sound : M .State → Type 0) (keeps : Keeps
 
     -- a connection that is live as told is live by its deadline
     live-now :
-        (c : Connection) → Alive t c → (a : Ask K) → M .reads q ≡ asks a → LiveNow →
-        clockUsed K connections (M .view (t .state)) a < c .deadline
+        (c : Connection) → Alive t c → (a : Ask) → M .reads q ≡ asks a → LiveNow →
+        clockUsed connections (M .view (t .state)) a < c .deadline
     live-now c al a read live =
         let given = ap (clockIn) read in
-        omega (arith, kept .clock, al .told-early, al .first-early)
+        omega (arith, kept .clock, al .told-early)
 
     other-phase : Elsewhere → Asked → passes M t q ≡ true → Phase t → Phase (afterCall M t q other)
     unfolding afterCall
@@ -142,16 +151,17 @@ module _ {K : Keys} (M : Machine K) (Sound : M .State → Type 0) (keeps : Keeps
     other-phase fair x e (alive opened-t c al) =
         ⊎-elim
         (λ (live : LiveNow).
-        let elsewhere : filter K connections (M .view (t .state)) (x .ask) .place ≡ t .place → ⊥ = λ same. fair opened-t live e (x .place ∙ same) in
+        let elsewhere : placeBy (M .number) (filter connections (M .view (t .state)) (x .ask)) ≡ M .number (al .place) → ⊥ = λ same. fair opened-t live e (x .place ∙ same ∙ al .numbered) in
         let now = live-now c al (x .ask) (x .read) live in
-        let r = pass-elsewhere P known (M .view (t .state)) (keeps .sound-table (t .state) (kept .sound)) (t .place) c (x .ask) (al .ours) (al .others) now (x .answer) elsewhere in
+        let r = pass-elsewhere P known (M .view (t .state)) (keeps .sound-view (t .state) (kept .sound)) (M .number) (al .place) c (x .ask) (al .ours) (al .others) now (x .answer) elsewhere in
         alive opened-t c record {
+          place = al .place;
+          numbered = al .numbered;
           ours = rw (x .table) (r .0);
           others = rw (x .table) (r .1);
           holds = al .holds;
           heard = al .heard;
           told-early = al .told-early;
-          first-early = al .first-early;
         })
         (λ (late : t .until ≤ max (clockIn (M .reads q)) (t .passClock)).
         let next : nextClock M t q ≡ max (clockIn (M .reads q)) (t .passClock) = if-true _ _ _ e in
@@ -164,8 +174,8 @@ module _ {K : Keys} (M : Machine K) (Sound : M .State → Type 0) (keeps : Keeps
         ⊎-elim (by-reading (M .reads q) refl) (λ (e : passes M t q ≡ false). unmoved (blocked-same e) (if-false _ _ _ e))
         (true-or-false (passes M t q))
       where
-        by-reading : (r : Reading (Ask K)) → M .reads q ≡ r → passes M t q ≡ true → Table-kept (afterCall M t q other)
-        by-reading (refused n p) is e = absurd (keeps .refusal-blocks q n p is (sym (keeps .refusal-answered (t .state) q n p (kept .sound) is) ∙ passed-0 e))
+        by-reading : (r : Reading Ask) → M .reads q ≡ r → passes M t q ≡ true → Table-kept (afterCall M t q other)
+        by-reading (refused n) is e = absurd (keeps .refusal-blocks q n is (sym (keeps .refusal-answered (t .state) q n (kept .sound) is) ∙ passed-0 e))
         by-reading (asks a) is e =
             let x = asked a is e in
             record {
@@ -180,23 +190,17 @@ module _ {K : Keys} (M : Machine K) (Sound : M .State → Type 0) (keeps : Keeps
 
     -- A call with a segment p of the pair's, that passes
 
-    module _ (p : LineSegment) (a : Ask K) (read : M .reads q ≡ asks a) (brings : a .segment ≡ onWire p) (e : passes M t q ≡ true) where
-      b : Table K connections
-      b = M .view (t .state)
+    module _ (p : LineSegment) (a : Ask) (read : M .reads q ≡ asks a) (brings : a .segment ≡ onWire p) (e : passes M t q ≡ true) where
+      sound-b : SoundView (M .view (t .state))
+      sound-b = keeps .sound-view (t .state) (kept .sound)
 
-      sound-b : SoundTable K (M .view (t .state))
-      sound-b = keeps .sound-table (t .state) (kept .sound)
-
-      now : ℕ
-      now = clockUsed K connections (M .view (t .state)) a
-
-      answer-0 : filter K connections (M .view (t .state)) a .answer ≡ 0
+      answer-0 : answerOf connections (filter connections (M .view (t .state)) a) ≡ 0
       answer-0 = sym (keeps .answered (t .state) q a (kept .sound) read) ∙ passed-0 e
 
       -- what is told of the deadline is no later than the entry's
       told-before :
           (place : ℕ) (c : Connection) → c .stage ≡ stageOf (p ∷ t .passed) →
-          c .deadline ≡ clockUsed K connections (M .view (t .state)) a + lifeOf (c .stage) →
+          c .deadline ≡ clockUsed connections (M .view (t .state)) a + lifeOf (c .stage) →
           afterSegment M t q place p .until ≤ c .deadline
       told-before place c stage deadline =
           let given = ap (clockIn) read in
@@ -205,66 +209,69 @@ module _ {K : Keys} (M : Machine K) (Sound : M .State → Type 0) (keeps : Keeps
           let life = ap lifeOf stage in
           omega (arith, given, next, told-then, life, deadline, kept .clock)
 
-      first-before :
-          (c : Connection) → c .deadline ≡ clockUsed K connections (M .view (t .state)) a + lifeOf (c .stage) → 1 ≤ lifeOf (c .stage) →
-          M .view s₀ .clock < c .deadline
-      first-before c deadline life = omega (arith, kept .clock)
-
       -- the entry that it leaves, of a connection that holds the history with it on top
       segment-kept :
-          (place : ℕ) (c : Connection) →
-          OurEntry P (M .view (M .run (t .state) q .next)) place c → OthersExpired P (M .view (M .run (t .state) q .next)) place →
+          (place spot : ℕ) (c : Connection) → M .number spot ≡ place →
+          OurEntry P (M .view (M .run (t .state) q .next)) spot c → OthersExpired P (M .view (M .run (t .state) q .next)) spot →
           Holds c (p ∷ t .passed) → Heard P (p ∷ t .passed) →
-          c .deadline ≡ clockUsed K connections (M .view (t .state)) a + lifeOf (c .stage) → 1 ≤ lifeOf (c .stage) →
+          c .deadline ≡ clockUsed connections (M .view (t .state)) a + lifeOf (c .stage) →
           Table-kept (afterSegment M t q place p)
-      segment-kept place c ours others holds heard deadline life =
+      segment-kept place spot c numbered ours others holds heard deadline =
           let more : (if passes M t q then p ∷ t .passed else t .passed) ≡ p ∷ t .passed = if-true _ _ _ e in
           record {
             sound = keeps .sound-kept (t .state) q (kept .sound);
             clock = clock-after (asked a read e) e;
             phase = alive refl c record {
+              place = spot;
+              numbered = numbered;
               ours = ours;
               others = others;
               holds = rw more holds;
               heard = rw more heard;
               told-early = told-before place c (holds .stage) deadline;
-              first-early = first-before c deadline life;
             };
           }
 
       -- the opening
       pub opening-kept :
           AskOf P 0 a → p .from ≡ 0 → p .flags ≡ SYN → Formed p → p .start ≡ P .start 0 → t .passed ≡ [] →
-          search K connections (M .view (t .state)) a ≡ length (M .view (t .state) .entries) →
+          rows.search connections (M .view (t .state)) (clockUsed connections (M .view (t .state)) a) (a .side) (a .key) ≡ Nothing →
           Table-kept (afterSegment M t q (M .run (t .state) q .place) p)
       opening-kept asked-0 opener a-syn formed begins none unfound =
           let made = opening-made P known (M .view (t .state)) sound-b a asked-0 unfound answer-0 in
-          let c : Connection = opened (P .side) (a .segment) (clockUsed K connections (M .view (t .state)) a) in
-          let renewed = opened-renewed (P .side) (a .segment) (clockUsed K connections (M .view (t .state)) a) in
-          let holds : Holds (opened (P .side) (a .segment) (clockUsed K connections (M .view (t .state)) a)) (p ∷ t .passed) = rw (brings, none) (opened-holds p opener a-syn formed (P .side) (clockUsed K connections (M .view (t .state)) a)) in
+          let c : Connection = opened (P .side) (a .segment) (clockUsed connections (M .view (t .state)) a) in
+          let renewed = opened-renewed (P .side) (a .segment) (clockUsed connections (M .view (t .state)) a) in
+          let holds : Holds (opened (P .side) (a .segment) (clockUsed connections (M .view (t .state)) a)) (p ∷ t .passed) = rw (brings, none) (opened-holds p opener a-syn formed (P .side) (clockUsed connections (M .view (t .state)) a)) in
           let end = ap (λ (n : Numbers). n .end) (opener-begins p opener a-syn formed) in
           let heard : Heard P (p ∷ t .passed) = rw none (quiet (opened-unanswered p opener a-syn formed) (omega (arith, end, begins))) in
-          let place = keeps .placed (t .state) q a (kept .sound) read in
-          let table = keeps .left (t .state) q a (kept .sound) read in
-          segment-kept (M .run (t .state) q .place) c (rw (place, table) (made .0)) (rw (place, table) (made .1)) holds heard (renewed .0) (renewed .1)
+          let place = keeps .placed (t .state) q a (kept .sound) read ∙ ap (placeBy (M .number)) (made .is) in
+          let table = keeps .left (t .state) q a (kept .sound) read ∙ ap (after connections (M .view (t .state))) (made .is) in
+          segment-kept (M .run (t .state) q .place) (made .place) c (sym place) (rw table (made .ours)) (rw table (made .others)) holds heard (renewed .0)
 
     -- An arrival at the live entry
 
-    module _ (p : LineSegment) (a : Ask K) (read : M .reads q ≡ asks a) (brings : a .segment ≡ onWire p) (asked-p : AskOf P (p .from) a) (no-reset : rst (p .flags) ≡ 1 → ⊥) (c : Connection) (al : Alive t c) (live : LiveNow) (verdict : verdictOn c (p .from) (onWire p) ≡ Pass) where
-      filter-passes : filter K connections (M .view (t .state)) a ≡ pass K connections (M .view (t .state)) a (t .place) (record { key = P .key; connection = passed c (p .from) (onWire p) (clockUsed K connections (M .view (t .state)) a) })
-      unfolding matched
+    module _ (p : LineSegment) (a : Ask) (read : M .reads q ≡ asks a) (brings : a .segment ≡ onWire p) (asked-p : AskOf P (p .from) a) (no-reset : rst (p .flags) ≡ 1 → ⊥) (c : Connection) (al : Alive t c) (live : LiveNow) (verdict : verdictOn c (p .from) (onWire p) ≡ Pass) where
+      abbrev left-entry : Entry connections
+      left-entry = ours P (passed c (p .from) (onWire p) (clockUsed connections (M .view (t .state)) a))
+
+      filter-passes : filter connections (M .view (t .state)) a ≡ Passes (al .place) (clockUsed connections (M .view (t .state)) a) left-entry
+      unfolding entryWith
       filter-passes =
-          let found = arrival-found P known (M .view (t .state)) (keeps .sound-table (t .state) (kept .sound)) (t .place) (p .from) c a (al .ours) (al .others) asked-p (live-now c al a read live) in
-          let after : entryAfter K connections (record { key = P .key; connection = c }) (p .from) (onWire p) (clockUsed K connections (M .view (t .state)) a) ≡ record { key = P .key; connection = passed c (p .from) (onWire p) (clockUsed K connections (M .view (t .state)) a) } = if-=-not _ _ no-reset in
-          filter-matched P (M .view (t .state)) a (rw (found .0) (al .ours .inside))
-          ∙ ap (matched K connections (M .view (t .state)) a) (found .0)
-          ∙ rw (al .ours .there, found .1, brings, verdict, after)
+          let v = M .view (t .state) in
+          let now : ℕ = clockUsed connections v a in
+          let found = arrival-found P known v (keeps .sound-view (t .state) (kept .sound)) (al .place) (p .from) c a (al .ours) (al .others) asked-p (live-now c al a read live) in
+          let in-use = passed-renewed c (p .from) (onWire p) now no-reset .life in
+          let sender : senderOf connections (ours P c) (a .side) ≡ p .from = found .1 in
+          onSegment-by-search connections v now (a .side) (a .key) (a .segment) _ (found .0)
+          ∙ ap (λ (e : Entry connections). onEntry connections e (al .place) now (a .side) (a .segment)) (al .ours .there)
+          ∙ onEntry-by-verdict connections (ours P c) (al .place) now (a .side) (a .segment) Pass (rw (sender, brings) verdict)
+          ∙ ap (Passes (al .place) now) ((λ n. entryAfter connections (ours P c) (sender n) (brings n) now) ∙ if-=-not _ _ (in-use-stage _ in-use))
 
       answer-is-0 : M .run (t .state) q .answer ≡ 0
-      answer-is-0 = keeps .answered (t .state) q a (kept .sound) read ∙ ap (λ (r : Reply K connections). r .answer) filter-passes
+      answer-is-0 = keeps .answered (t .state) q a (kept .sound) read ∙ ap (answerOf connections) filter-passes
 
       place-is-ours : M .run (t .state) q .place ≡ t .place
-      place-is-ours = keeps .placed (t .state) q a (kept .sound) read ∙ ap (λ (r : Reply K connections). r .place) filter-passes
+      place-is-ours = keeps .placed (t .state) q a (kept .sound) read ∙ ap (placeBy (M .number)) filter-passes ∙ al .numbered
 
       arrival-passes : passes M t q ≡ true
       unfolding passes
@@ -274,12 +281,11 @@ module _ {K : Keys} (M : Machine K) (Sound : M .State → Type 0) (keeps : Keeps
           ((now : ℕ) → Holds (passed c (p .from) (onWire p) now) (p ∷ t .passed)) → Heard P (p ∷ t .passed) →
           Table-kept (afterSegment M t q (t .place) p)
       arrival-kept holds-after heard-after =
-          let now : ℕ = clockUsed K connections (M .view (t .state)) a in
-          let c' : Connection = passed c (p .from) (onWire p) (clockUsed K connections (M .view (t .state)) a) in
-          let renewed = passed-renewed c (p .from) (onWire p) (clockUsed K connections (M .view (t .state)) a) no-reset in
-          let table = keeps .left (t .state) q a (kept .sound) read ∙ ap (λ (r : Reply K connections). r .table) filter-passes in
-          let r = pass-on-ours P known (M .view (t .state)) (keeps .sound-table (t .state) (kept .sound)) (t .place) c c' a (al .ours) (al .others) (renewed .side ∙ al .ours .our-side) in
-          segment-kept p a read brings arrival-passes (t .place) c' (rw table (r .0)) (rw table (r .1)) (holds-after (clockUsed K connections (M .view (t .state)) a)) heard-after (renewed .deadline) (renewed .life)
+          let c' : Connection = passed c (p .from) (onWire p) (clockUsed connections (M .view (t .state)) a) in
+          let renewed = passed-renewed c (p .from) (onWire p) (clockUsed connections (M .view (t .state)) a) no-reset in
+          let table = keeps .left (t .state) q a (kept .sound) read ∙ ap (after connections (M .view (t .state))) filter-passes in
+          let r = pass-on-ours P known (M .view (t .state)) (keeps .sound-view (t .state) (kept .sound)) (al .place) c c' (clockUsed connections (M .view (t .state)) a) (al .ours) (al .others) (omega arith) (renewed .side ∙ al .ours .our-side) in
+          segment-kept p a read brings arrival-passes (t .place) (al .place) c' (al .numbered) (rw table (r .0)) (rw table (r .1)) (holds-after (clockUsed connections (M .view (t .state)) a)) heard-after (renewed .deadline)
 
   -- The events, one by one
 
@@ -303,7 +309,7 @@ module _ {K : Keys} (M : Machine K) (Sound : M .State → Type 0) (keeps : Keeps
   start : Sound s₀ → Inv []
   unfolding told receivedBy
   start sound = record {
-    table = record { sound = sound; clock = omega arith; phase = before refl refl };
+    table = record { sound = sound; clock = refl; phase = before refl refl };
     protocol = record {
       facts = λ k p s none. absurd none;
       order = λ k p s k' p' s' none. absurd none;
@@ -429,5 +435,5 @@ module _ {K : Keys} (M : Machine K) (Sound : M .State → Type 0) (keeps : Keeps
       let r = kept-along sound L (legal .1) in (after-delivery k p L (r .0) (legal .0), r .1)
 
 -- two honest ends are never blocked
-pub demand3 : {K : Keys} (M : Machine K) (Sound : M .State → Type 0) → KeepsTo K M Sound → Demand3 M Sound
+pub demand3 : (M : Machine) (Sound : M .State → Type 0) → KeepsTo M Sound → Demand3 M Sound
 demand3 M Sound keeps s₀ sound P known L legal = kept-along M Sound keeps s₀ P known sound L legal .1

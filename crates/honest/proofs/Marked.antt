@@ -8,9 +8,11 @@ use Rattle.connection.specs.Ends.{sent, granted, written}
 use Rattle.connection.specs.Ranges.{sequenceMet, ackMet}
 use Rattle.connection.specs.Stages.{lifeOf, withFin, finsAfter, openStage, stageAfter}
 use Rattle.connection.specs.Decision.{sameSyn, reply, verdictUnanswered, verdictByRanges, verdictOn, opened, repeated, answered, carried, passed}
-use Rattle.honest.specs.Rows.{matches, senderOf, firstFrom, unmatched, matched, filter}
+use Rattle.rows.specs.Places.{firstFrom}
+use Rattle.rows.specs.Rows.{fromOpener, fromAnswerer, liveMatch, vacant, senderOf, entryWith, onEntry, openingEntry, unmatched, onSegment}
+use Rattle.address.specs.Flows.{sameFlow}
 use Rattle.honest.specs.Marked.{markedSet, allHold}
 
 pub marked : allHold markedSet ≡ true
-unfolding if_then_else_ wrap ringPlus ringMinus nearest further sent granted written sequenceMet ackMet lifeOf withFin finsAfter openStage stageAfter sameSyn reply verdictUnanswered verdictByRanges verdictOn opened repeated answered carried passed matches senderOf firstFrom unmatched matched filter
+unfolding if_then_else_ wrap ringPlus ringMinus nearest further sent granted written sequenceMet ackMet lifeOf withFin finsAfter openStage stageAfter sameSyn reply verdictUnanswered verdictByRanges verdictOn opened repeated answered carried passed firstFrom fromOpener fromAnswerer liveMatch vacant senderOf entryWith onEntry openingEntry unmatched onSegment sameFlow
 marked = refl

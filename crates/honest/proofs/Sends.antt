@@ -13,7 +13,6 @@ use Rattle.choice.proofs.Choice.{if-true, if-false, if-either, if-=, if-=-not}
 use Rattle.choice.proofs.Tests.{false-true}
 use Rattle.segment.specs.Flags.{syn, rst, ack, SYN, SYN+ACK}
 use Rattle.history.specs.History.{LineSegment, numbersOf, Formed}
-use Rattle.honest.specs.Keys.{Keys}
 use Rattle.honest.specs.Rules.{Label, Event, send, call, delivery, Pair, sentBy, Sent, receivedBy, highest, some, ackOf, edgeOf, endOf, answered, FirstSegment, LaterSegment, Honest, first, later}
 use Rattle.honest.proofs.Lists.{In, highest-up, highest-lub, some-in, in-some, endBy-mine, windowBy-mine, edgeBy-theirs, numbers-up, win-some}
 
@@ -73,7 +72,7 @@ pub record Later {Call : Type 0} (p : LineSegment) (s : ℕ) (L : List (Event Ca
   pub answered-now : answered (p .from) L ≡ true
   pub heard : s ≤ highest ackOf (receivedBy (p .from) L)
 
-pub record First {K : Keys} (P : Pair K) (p : LineSegment) (s : ℕ) : Type 0 where
+pub record First (P : Pair) (p : LineSegment) (s : ℕ) : Type 0 where
   pub rule : FirstSegment P p
   pub own-start : s ≡ p .start
 
@@ -140,14 +139,14 @@ answered-in (suc zero) L known e =
 answered-in (suc (suc i)) L known e = absurd (omega arith)
 
 -- a first segment, by its end
-pub record FirstFacts {K : Keys} (P : Pair K) (p : LineSegment) : Type 0 where
+pub record FirstFacts (P : Pair) (p : LineSegment) : Type 0 where
   pub end : endOf p ≡ P .start (p .from) + 1
   pub no-reset : rst (p .flags) ≡ 1 → ⊥
   pub a-syn : syn (p .flags) ≡ 1
   pub opener : p .from ≡ 0 → p .flags ≡ SYN
   pub answerer : p .from ≡ 1 → p .flags ≡ SYN+ACK
 
-pub first-facts : {K : Keys} (P : Pair K) (p : LineSegment) → Formed p → FirstSegment P p → FirstFacts P p
+pub first-facts : (P : Pair) (p : LineSegment) → Formed p → FirstSegment P p → FirstFacts P p
 first-facts P p formed f = by (eqb (p .from) 0) refl
   where
     by : (t : Bool) → eqb (p .from) 0 ≡ t → FirstFacts P p
@@ -173,7 +172,7 @@ first-facts P p formed f = by (eqb (p .from) 0) refl
 
 -- and what a SYN+ACK acknowledges
 pub first-acks :
-    {K : Keys} (P : Pair K) (p : LineSegment) → p .from < 2 → FirstSegment P p → FirstFacts P p → ack (p .flags) ≡ 1 →
+    (P : Pair) (p : LineSegment) → p .from < 2 → FirstSegment P p → FirstFacts P p → ack (p .flags) ≡ 1 →
     p .acked ≡ P .start (1 - p .from) + 1
 first-acks P p known rule f acks = by (eqb (p .from) 0) refl
   where
@@ -184,7 +183,7 @@ first-acks P p known rule f acks = by (eqb (p .from) 0) refl
         let opener : 1 - p .from ≡ 0 = omega arith in
         rw opener (rule .acks answerer)
 
-module _ {K : Keys} {Call : Type 0} (P : Pair K) where
+module _ {Call : Type 0} (P : Pair) where
   pub record Fact (h : List LineSegment) (p : LineSegment) (s : ℕ) (L : List (Event Call)) : Type 0 where
     pub end-known : p .from < 2
     pub formed : Formed p

@@ -1,16 +1,13 @@
 -- A call leaves a sound table sound, whatever the traffic.
 use Prim.Native.Nat.{ℕ, zero, suc, _^_, _<_, _≤_}
-use mathlib.Core.Path.{_≡_, refl, sym, ap, _∙_}
+use mathlib.Core.Path.{_≡_, refl, ap}
 use mathlib.Core.Logic.{_⊎_, inl, inr, ⊎-elim}
 use mathlib.Core.Bool.{true, false}
 use mathlib.Core.List.{List, [], _∷_}
 use native.Mathlib.Omega.{arith}
-use lib.ListN.{length, getD, set, length-set}
-use lib.Seq.{getD-set-same, getD-set-other}
-use borrow.Author.Tests.{eqb-true, eqb-false}
+use borrow.Author.Tests.{eq-eqb, eqb-false}
 use Rattle.choice.specs.Choice.{_=ᵇ_}
-use Rattle.choice.proofs.Choice.{if-true, if-false, if-either, if-<}
-use Rattle.choice.proofs.Tests.{true-or-false}
+use Rattle.choice.proofs.Choice.{if-true, if-either, if-cases}
 use Rattle.serial.specs.Ring.{ringPlus}
 use Rattle.serial.specs.Serial.{further}
 use Rattle.serial.proofs.Ring.{wrap-small}
@@ -22,17 +19,17 @@ use Rattle.connection.specs.Decision.{verdictOn, free, opened, repeated, answer
 use Rattle.connection.specs.Sound.{soundConnection}
 use Rattle.connection.specs.declared.Connection.{Connection}
 use Rattle.connection.specs.declared.End.{End}
-use Rattle.connection.specs.declared.Verdict.{Verdict}
-use Rattle.connection.specs.declared.Verdict.the-variants.{Pass, NotAllowed, SequenceMissed, AckMissed}
+use Rattle.connection.specs.declared.Verdict.the-variants.{Pass}
 use Rattle.connection.proofs.Sound.{later-sound}
 use Rattle.history.specs.History.{Placeable}
 use Rattle.history.specs.Records.{Fits, TwoEnds}
 use Rattle.history.proofs.Sound.{opened-sound, passed-sound}
-use Rattle.honest.specs.Keys.{Keys}
-use Rattle.honest.specs.Rows.{Entry, Table, Ask, Reply, freeEntry, clockUsed, senderOf, search, entryAfter, byVerdict, filter, matched}
-use Rattle.honest.specs.Connections.{connections, SoundTable}
-use Rattle.honest.specs.Typed.{Typed, TypedTable}
-use Rattle.honest.proofs.Search.{sender-known, Outcome, refuses, passes, makes, outcome}
+use Rattle.address.specs.declared.Flow.{Flow}
+use Rattle.address.specs.Flows.{noFlow}
+use Rattle.rows.specs.Rows.{Ask, Entry, View, Outcome, Blocked, Passed, freeEntry, entryWith, entryAfter, openingEntry, clockUsed, filter, after}
+use Rattle.rows.specs.Connections.{connections}
+use Rattle.rows.proofs.Rows.{sender-known, Comes, blocks, passes, makes, comes}
+use Rattle.honest.specs.Sound.{SoundView, Typed, TypedView}
 
 -- Numbers stay below 2^32
 
@@ -113,95 +110,100 @@ module _ (c : Connection) (x : ℕ → End) (ends : TwoEnds c x) (g : Segment) (
   unfolding passed
   passed-typed i h = if-either Typed _ _ _ free-typed (if-either Typed _ _ _ (carried-typed i h) (if-either Typed _ _ _ repeated-typed answered-typed))
 
+-- a reset frees
+pub reset-frees : (c : Connection) (i : ℕ) (g : Segment) (now : ℕ) → rst (g .flags) ≡ 1 → passed c i g now ≡ free
+unfolding passed
+reset-frees c i g now reset = if-true _ _ _ (eq-eqb _ _ reset)
+
 -- One entry
 
-module _ (K : Keys) where
-  -- free or sound by a clock, and typed
-  record SoundEntry (clock : ℕ) (e : Entry K connections) : Type 0 where
-    sound : (e ≡ freeEntry K connections) ⊎ (soundConnection clock (e .connection) ≡ true)
-    typed : Typed (e .connection)
+-- free or sound by a clock, and typed
+pub record SoundEntry (clock : ℕ) (e : Entry connections) : Type 0 where
+  pub sound : (e ≡ freeEntry connections) ⊎ (soundConnection clock (e .connection) ≡ true)
+  pub typed : Typed (e .connection)
 
-  abbrev SoundEntries : ℕ → List (Entry K connections) → Type 0
-  SoundEntries clock l = (p : ℕ) → p < length l → SoundEntry clock (getD l p (freeEntry K connections))
+free-sound : (clock : ℕ) → SoundEntry clock (freeEntry connections)
+free-sound clock = record { sound = inl refl; typed = free-typed }
 
-  free-sound : (clock : ℕ) → SoundEntry clock (freeEntry K connections)
-  free-sound clock = record { sound = inl refl; typed = free-typed }
+entry-later : (clock now : ℕ) (e : Entry connections) → clock ≤ now → SoundEntry clock e → SoundEntry now e
+entry-later clock now e later s = record { sound = ⊎-elim (λ free. inl free) (λ sound. inr (later-sound clock now _ later sound)) (s .sound); typed = s .typed }
 
-  entry-later : (clock now : ℕ) (e : Entry K connections) → clock ≤ now → SoundEntry clock e → SoundEntry now e
-  entry-later clock now e later s = record { sound = ⊎-elim (λ free. inl free) (λ sound. inr (later-sound clock now _ later sound)) (s .sound); typed = s .typed }
+-- A call
 
-  written-sound :
-      (now : ℕ) (l : List (Entry K connections)) (p : ℕ) (e : Entry K connections) → SoundEntries now l → SoundEntry now e →
-      SoundEntries now (set l p e)
-  written-sound now l p e all new r inside = go (true-or-false (r =ᵇ p))
+module _ (v : View connections) (a : Ask) where
+  -- what a pass leaves of a live entry is free or sound
+  passed-entry :
+      (e : Entry connections) (i : ℕ) → i < 2 → SoundEntry (v .clock) e → Placeable (a .segment) →
+      clockUsed connections v a < e .connection .deadline → verdictOn (e .connection) i (a .segment) ≡ Pass →
+      SoundEntry (clockUsed connections v a) (entryAfter connections e i (a .segment) (clockUsed connections v a))
+  unfolding entryWith
+  passed-entry e i known s placeable live verdict =
+      if-cases (SoundEntry (clockUsed connections v a)) (passed (e .connection) i (a .segment) (clockUsed connections v a) .stage =ᵇ 0) _ _
+      (λ _. free-sound _)
+      (λ in-use. record {
+        sound = inr (passed-sound (v .clock) (e .connection) (s .typed .0) (s .typed .1) not-free i known (a .segment) placeable (clockUsed connections v a) verdict (no-reset in-use));
+        typed = passed-typed (e .connection) (s .typed .0) (s .typed .1) (a .segment) (clockUsed connections v a) i known;
+      })
     where
-      inside-before : r < length l
-      inside-before = rw length-set at inside
+      not-free : soundConnection (v .clock) (e .connection) ≡ true
+      not-free = ⊎-elim (λ free. absurd (omega (arith, ap (λ (f : Entry connections). f .connection .deadline) free))) (λ sound. sound) (s .sound)
 
-      go : (r =ᵇ p ≡ true) ⊎ (r =ᵇ p ≡ false) → SoundEntry now (getD (set l p e) r (freeEntry K connections))
-      go (inl same) = rw (eqb-true r p same, getD-set-same l p e (freeEntry K connections) (omega (arith, inside-before, eqb-true r p same))) new
-      go (inr differs) = rw (getD-set-other l p r e (freeEntry K connections) (eqb-false r p differs)) (all r inside-before)
+      no-reset : passed (e .connection) i (a .segment) (clockUsed connections v a) .stage =ᵇ 0 ≡ false → rst (a .segment .flags) ≡ 1 → ⊥
+      no-reset in-use reset = eqb-false _ _ in-use (ap (λ (c : Connection). c .stage) (reset-frees (e .connection) i (a .segment) (clockUsed connections v a) reset))
 
-  -- A call
+  -- what a pass leaves: at a place of the view, by the clock used, an entry that is free or sound, with addresses and ports of a free
+  -- entry, of the call or of the entry that was there
+  pub record Left (p now : ℕ) (e : Entry connections) : Type 1 where
+    pub inside : p < v .places
+    pub clock : now ≡ clockUsed connections v a
+    pub sound : SoundEntry now e
+    pub key : (Fits : Flow → Type 0) → Fits noFlow → Fits (a .key) → Fits (v .entry p .key) → Fits (e .key)
 
-  module _ (t : Table K connections) (a : Ask K) where
-    -- what passed on a match has verdict Pass
-    pass-verdict :
-        (e : Entry K connections) → getD (t .entries) (search K connections t a) (freeEntry K connections) ≡ e →
-        search K connections t a < length (t .entries) → filter K connections t a .answer ≡ 0 →
-        verdictOn (e .connection) (senderOf K connections e a) (a .segment) ≡ Pass
-    unfolding filter matched
-    pass-verdict e there found passed-0 =
-        let is : filter K connections t a ≡ byVerdict K connections (verdictOn (e .connection) (senderOf K connections e a) (a .segment)) t a (search K connections t a) (entryAfter K connections e (senderOf K connections e a) (a .segment) (clockUsed K connections t a)) = if-< _ _ found ∙ rw there in
-        go _ refl (sym (ap (λ (r : Reply K connections). r .answer) is) ∙ passed-0)
-      where
-        go :
-            (v : Verdict) → verdictOn (e .connection) (senderOf K connections e a) (a .segment) ≡ v →
-            byVerdict K connections v t a (search K connections t a) (entryAfter K connections e (senderOf K connections e a) (a .segment) (clockUsed K connections t a)) .answer ≡ 0 →
-            verdictOn (e .connection) (senderOf K connections e a) (a .segment) ≡ Pass
-        go Pass is answer = is
-        go NotAllowed is answer = absurd (omega arith)
-        go SequenceMissed is answer = absurd (omega arith)
-        go AckMissed is answer = absurd (omega arith)
+  abbrev pub LeftBy : Outcome connections → Type 1
+  LeftBy (Blocked n) = Unit {1}
+  LeftBy (Passed p now e) = Left p now e
 
-    -- what it leaves of the entry is free or sound
-    passed-entry :
-        (e : Entry K connections) → SoundEntry (t .clock) e → Placeable (a .segment) →
-        clockUsed K connections t a < e .connection .deadline →
-        verdictOn (e .connection) (senderOf K connections e a) (a .segment) ≡ Pass →
-        SoundEntry (clockUsed K connections t a) (entryAfter K connections e (senderOf K connections e a) (a .segment) (clockUsed K connections t a))
-    passed-entry e s placeable live verdict = go (true-or-false (rst (a .segment .flags) =ᵇ 1))
-      where
-        not-free : soundConnection (t .clock) (e .connection) ≡ true
-        not-free = ⊎-elim (λ free. absurd (omega (arith, ap (λ (f : Entry K connections). f .connection .deadline) free))) (λ sound. sound) (s .sound)
+  entry-key :
+      (Fits : Flow → Type 0) (e : Entry connections) (c : Connection) → Fits noFlow → Fits (e .key) →
+      Fits (entryWith connections e c .key)
+  unfolding entryWith
+  entry-key Fits e c none there = if-either (λ (x : Entry connections). Fits (x .key)) _ _ _ none there
 
-        go :
-            (rst (a .segment .flags) =ᵇ 1 ≡ true) ⊎ (rst (a .segment .flags) =ᵇ 1 ≡ false) →
-            SoundEntry (clockUsed K connections t a) (entryAfter K connections e (senderOf K connections e a) (a .segment) (clockUsed K connections t a))
-        go (inl reset) = rw if-true (free-sound _)
-        go (inr none) =
-            rw if-false record {
-              sound = inr (passed-sound (t .clock) (e .connection) (s .typed .0) (s .typed .1) not-free (senderOf K connections e a) (sender-known K connections e a) (a .segment) placeable (clockUsed K connections t a) verdict (eqb-false _ _ none));
-              typed = passed-typed (e .connection) (s .typed .0) (s .typed .1) (a .segment) (clockUsed K connections t a) (senderOf K connections e a) (sender-known K connections e a);
-            }
+  made-left :
+      (p : ℕ) → p < v .places → a .side ≤ 1 → Placeable (a .segment) →
+      Left p (clockUsed connections v a) (openingEntry connections (clockUsed connections v a) (a .side) (a .key) (a .segment))
+  unfolding openingEntry
+  made-left p inside known placeable = record {
+    inside = inside;
+    clock = refl;
+    sound = record { sound = inr (opened-sound (a .side) (a .segment) (clockUsed connections v a) known placeable); typed = opened-typed (a .side) (a .segment) (clockUsed connections v a) };
+    key = λ Fits none asked there. asked;
+  }
 
-    pub filter-sound :
-        SoundTable K t → TypedTable K t → a .side ≤ 1 → Placeable (a .segment) →
-        SoundTable K (filter K connections t a .table) × TypedTable K (filter K connections t a .table)
-    filter-sound sound typed known placeable = ((λ p inside. all p inside .sound), (λ p inside. all p inside .typed))
-      where
-        before : SoundEntries (t .clock) (t .entries)
-        before p inside = record { sound = sound p inside; typed = typed p inside }
+  pub filter-left : SoundView v → TypedView v → a .side ≤ 1 → Placeable (a .segment) → LeftBy (filter connections v a)
+  filter-left sound typed known placeable = go _ (comes connections v (clockUsed connections v a) (a .side) (a .key) (a .segment))
+    where
+      go :
+          (o : Outcome connections) →
+          Comes connections v (clockUsed connections v a) (a .side) (a .key) (a .segment) o → LeftBy o
+      go o (blocks n is _ _) = rw is tt
+      go o (makes p is _ inside _) = rw is (made-left p inside known placeable)
+      go o (passes p is _ inside live verdict) = rw is record {
+        inside = inside;
+        clock = refl;
+        sound = passed-entry (v .entry p) _ (sender-known connections (v .entry p) (a .side)) record { sound = sound p inside; typed = typed p inside } placeable live verdict;
+        key = λ Fits none asked there. entry-key Fits (v .entry p) _ none there;
+      }
 
-        stays : SoundEntries (clockUsed K connections t a) (t .entries)
-        stays p inside = entry-later (t .clock) (clockUsed K connections t a) _ (omega arith) (before p inside)
-
-        go : Outcome K t a → SoundEntries (filter K connections t a .table .clock) (filter K connections t a .table .entries)
-        go (refuses _ kept) = rw kept before
-        go (passes e there found live is) = rw is (written-sound (clockUsed K connections t a) (t .entries) _ _ stays (passed-entry e (rw there at (before _ found)) placeable live (pass-verdict e there found (rw is))))
-        go (makes _ _ _ is) =
-            rw is (written-sound (clockUsed K connections t a) (t .entries) _ _ stays
-            record { sound = inr (opened-sound (a .side) (a .segment) (clockUsed K connections t a) known placeable); typed = opened-typed (a .side) (a .segment) (clockUsed K connections t a) })
-
-        all : SoundEntries (filter K connections t a .table .clock) (filter K connections t a .table .entries)
-        all = go (outcome K t a)
+  -- so a call leaves a sound view sound
+  pub filter-sound :
+      SoundView v → TypedView v → a .side ≤ 1 → Placeable (a .segment) →
+      SoundView (after connections v (filter connections v a)) × TypedView (after connections v (filter connections v a))
+  filter-sound sound typed known placeable = go (filter connections v a) (filter-left sound typed known placeable)
+    where
+      go : (o : Outcome connections) → LeftBy o → SoundView (after connections v o) × TypedView (after connections v o)
+      go (Blocked n) left = (sound, typed)
+      go (Passed p now e) left = ((λ q inside. all q inside .sound), (λ q inside. all q inside .typed))
+        where
+          all : (q : ℕ) → q < v .places → SoundEntry now (after connections v (Passed p now e) .entry q)
+          all q inside = if-either (SoundEntry now) (q =ᵇ p) e (v .entry q) (left .sound) (entry-later (v .clock) now _ (omega (arith, left .clock)) record { sound = sound q inside; typed = typed q inside })

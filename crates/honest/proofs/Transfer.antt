@@ -10,23 +10,22 @@ use Rattle.choice.specs.Choice.{if_then_else_, _=ᵇ_}
 use Rattle.choice.proofs.Tests.{false-true}
 use Rattle.connection.specs.Stages.{lifeOf}
 use Rattle.history.specs.History.{LineSegment, stageOf}
-use Rattle.honest.specs.Keys.{Keys}
-use Rattle.honest.specs.Rows.{Table}
-use Rattle.honest.specs.Connections.{connections}
+use Rattle.rows.specs.Rows.{View}
+use Rattle.rows.specs.Connections.{connections}
 use Rattle.honest.specs.Machine.{refused, asks, Machine, clockIn, KeepsTo}
 use Rattle.honest.specs.Rules.{Label, opening, arrival, other, Event, send, call, delivery, Pair, sentBy, Sent, Arrived, receivedBy, answered, Honest, first, later}
 use Rattle.honest.specs.Honest.{Told, passes, nextClock, afterSegment, afterCall, told, said, Live, Passed, Arrives, FairCall, Legal}
-use Rattle.honest.specs.Instance.{ListCall, listMachine}
+use Rattle.honest.specs.Instance.{ViewCall, viewMachine}
 use Rattle.honest.specs.Carries.{Carries, none, sent, called, refused-alone, delivered, LegalCarried, withCall, withOther, readings, ifAsked, otherAnswers, summaryOf, SummaryCarried}
 
 -- What ends have sent and received, and what has arrived
 
-module _ {K : Keys} (M : Machine K) where
+module _ (M : Machine) where
   abbrev Carrying : Type 0
   Carrying = List (Event (M .Call))
 
   abbrev Carried : Type 0
-  Carried = List (Event (ListCall K))
+  Carried = List (Event ViewCall)
 
   sentBy-same : (i : ℕ) {L : Carrying} {N : Carried} → Carries M L N → sentBy i L ≡ sentBy i N
   unfolding sentBy
@@ -63,7 +62,7 @@ module _ {K : Keys} (M : Machine K) where
   unfolding answered
   answered-same i c = rw (receivedBy-same 0 c, receivedBy-same 1 c)
 
-  honest-carried : (P : Pair K) (p : LineSegment) {L : Carrying} {N : Carried} → Carries M L N → Honest P p N → Honest P p L
+  honest-carried : (P : Pair) (p : LineSegment) {L : Carrying} {N : Carried} → Carries M L N → Honest P p N → Honest P p L
   honest-carried P p c (first rule not-yet syn-received) =
       first rule (answered-same (p .from) c ∙ not-yet) (λ answerer. rw (receivedBy-same 1 c) (syn-received answerer))
   honest-carried P p c (later rule now) =
@@ -81,7 +80,7 @@ module _ {K : Keys} (M : Machine K) where
 
   -- a list with each call made from the filter's, where all are read as what they were made from
   pub made-carries :
-      (f : ListCall K → M .Call) (N : List (Event (ListCall K))) → readings M (map (withCall f) N) ≡ readings (listMachine K) N →
+      (f : ViewCall → M .Call) (N : List (Event ViewCall)) → readings M (map (withCall f) N) ≡ readings (viewMachine (M .number)) N →
       Carries M (map (withCall f) N) N
   made-carries f [] all = none
   made-carries f (send p ∷ N) all = sent (made-carries f N all)
@@ -90,30 +89,30 @@ module _ {K : Keys} (M : Machine K) where
 
   -- a refused call put in at any place
   pub refused-carries :
-      (k : ℕ) (q : M .Call) (n p : ℕ) → M .reads q ≡ refused n p → {L : List (Event (M .Call))} {N : List (Event (ListCall K))} →
+      (k : ℕ) (q : M .Call) (n : ℕ) → M .reads q ≡ refused n → {L : List (Event (M .Call))} {N : List (Event ViewCall)} →
       Carries M L N →
       Carries M (withOther k q L) N
-  refused-carries zero q n p is c = refused-alone is c
-  refused-carries (suc k) q n p is none = refused-alone is none
-  refused-carries (suc k) q n p is (sent c) = sent (refused-carries k q n p is c)
-  refused-carries (suc k) q n p is (called this c) = called this (refused-carries k q n p is c)
-  refused-carries (suc k) q n p is (refused-alone this c) = refused-alone this (refused-carries k q n p is c)
-  refused-carries (suc k) q n p is (delivered c) = delivered (refused-carries k q n p is c)
+  refused-carries zero q n is c = refused-alone is c
+  refused-carries (suc k) q n is none = refused-alone is none
+  refused-carries (suc k) q n is (sent c) = sent (refused-carries k q n is c)
+  refused-carries (suc k) q n is (called this c) = called this (refused-carries k q n is c)
+  refused-carries (suc k) q n is (refused-alone this c) = refused-alone this (refused-carries k q n is c)
+  refused-carries (suc k) q n is (delivered c) = delivered (refused-carries k q n is c)
 
 -- What the calls tell
 
-module _ {K : Keys} (M : Machine K) (Sound : M .State → Type 0) (keeps : KeepsTo K M Sound) (s₀ : M .State) (sound : Sound s₀) where
-  abbrev F : Machine K
-  F = listMachine K
+module _ (M : Machine) (Sound : M .State → Type 0) (keeps : KeepsTo M Sound) (s₀ : M .State) (sound : Sound s₀) where
+  abbrev F : Machine
+  F = viewMachine (M .number)
 
-  abbrev t₀ : Table K connections
+  abbrev t₀ : View connections
   t₀ = M .view s₀
 
   -- the same, with the table that the state is
   abbrev viewed : Told M → Told F
   viewed t = record { state = M .view (t .state); opened = t .opened; place = t .place; passed = t .passed; passClock = t .passClock; until = t .until }
 
-  module _ (t : Told M) (kept : Sound (t .state)) (q : M .Call) (b : ListCall K) (is : M .reads q ≡ asks (b .0)) where
+  module _ (t : Told M) (kept : Sound (t .state)) (q : M .Call) (b : ViewCall) (is : M .reads q ≡ asks (b .0)) where
     same-pass : passes F (viewed t) b ≡ passes M t q
     unfolding passes
     same-pass = ap (λ (n : ℕ). n =ᵇ 0) (sym (keeps .answered (t .state) q (b .0) kept is))
@@ -145,9 +144,9 @@ module _ {K : Keys} (M : Machine K) (Sound : M .State → Type 0) (keeps : Keeps
     }
 
   -- a refused call is blocked and tells nothing
-  module _ (t : Told M) (kept : Sound (t .state)) (q : M .Call) (n p : ℕ) (is : M .reads q ≡ refused n p) where
+  module _ (t : Told M) (kept : Sound (t .state)) (q : M .Call) (n : ℕ) (is : M .reads q ≡ refused n) where
     refused-not-0 : M .run (t .state) q .answer ≡ 0 → ⊥
-    refused-not-0 e = keeps .refusal-blocks q n p is (sym (keeps .refusal-answered (t .state) q n p kept is) ∙ e)
+    refused-not-0 e = keeps .refusal-blocks q n is (sym (keeps .refusal-answered (t .state) q n kept is) ∙ e)
 
     refused-no-pass : passes M t q ≡ false
     unfolding passes
@@ -184,7 +183,7 @@ module _ {K : Keys} (M : Machine K) (Sound : M .State → Type 0) (keeps : Keeps
   told-same (sent c) = told-same c
   told-same (called {q = q} {b = b} {l = l} is c) =
       ap (λ (t : Told F). afterCall F t b l) (told-same c) ∙ same-after _ (told-sound c) q b is l
-  told-same (refused-alone {q = q} {n = n} {p = p} is c) = told-same c ∙ refused-tells-nothing _ (told-sound c) q n p is
+  told-same (refused-alone {q = q} {n = n} is c) = told-same c ∙ refused-tells-nothing _ (told-sound c) q n is
   told-same (delivered c) = told-same c
 
   -- What is asked of each event
@@ -199,12 +198,12 @@ module _ {K : Keys} (M : Machine K) (Sound : M .State → Type 0) (keeps : Keeps
     place-same : told M s₀ L .place ≡ told F t₀ N .place
     place-same = ap (λ (t : Told F). t .place) (sym (told-same c))
 
-    module _ (q : M .Call) (b : ListCall K) (is : M .reads q ≡ asks (b .0)) where
+    module _ (q : M .Call) (b : ViewCall) (is : M .reads q ≡ asks (b .0)) where
       said-answer-same : said M s₀ L q .answer ≡ said F t₀ N b .answer
-      said-answer-same = keeps .answered _ q (b .0) (told-sound c) is ∙ ap (λ (t : Table K connections). F .run t b .answer) view-same
+      said-answer-same = keeps .answered _ q (b .0) (told-sound c) is ∙ ap (λ (t : View connections). F .run t b .answer) view-same
 
       said-place-same : said M s₀ L q .place ≡ said F t₀ N b .place
-      said-place-same = keeps .placed _ q (b .0) (told-sound c) is ∙ ap (λ (t : Table K connections). F .run t b .place) view-same
+      said-place-same = keeps .placed _ q (b .0) (told-sound c) is ∙ ap (λ (t : View connections). F .run t b .place) view-same
 
       passes-same : passes M (told M s₀ L) q ≡ passes F (told F t₀ N) b
       unfolding passes
@@ -213,10 +212,10 @@ module _ {K : Keys} (M : Machine K) (Sound : M .State → Type 0) (keeps : Keeps
       live-same : Live M s₀ q L ≡ Live F t₀ b N
       live-same = λ i. max (clockIn (is i)) (sym (told-same c) i .passClock) < sym (told-same c) i .until
 
-      arrives-carried : (P : Pair K) (k : ℕ) (p : LineSegment) → Arrives F P k p b N → Arrives M P k p q L
+      arrives-carried : (P : Pair) (k : ℕ) (p : LineSegment) → Arrives F P k p b N → Arrives M P k p q L
       arrives-carried P k p a = record { sent = sent-carried M k p c (a .sent); clock = a .clock; brings = is ∙ a .brings }
 
-      fair-call-carried : (P : Pair K) (l : Label) → FairCall F t₀ P l b N → FairCall M s₀ P l q L
+      fair-call-carried : (P : Pair) (l : Label) → FairCall F t₀ P l b N → FairCall M s₀ P l q L
       fair-call-carried P (opening k p) o = record {
         first-one = opened-same ∙ o .first-one;
         arrives = arrives-carried P k p (o .arrives);
@@ -243,12 +242,12 @@ module _ {K : Keys} (M : Machine K) (Sound : M .State → Type 0) (keeps : Keeps
 
   -- The theorems
 
-  legal-along : (P : Pair K) {L : Carrying M} {N : Carried M} → Carries M L N → Legal F t₀ P N → Legal M s₀ P L
+  legal-along : (P : Pair) {L : Carrying M} {N : Carried M} → Carries M L N → Legal F t₀ P N → Legal M s₀ P L
   legal-along P none legal = tt
   legal-along P (sent {p = p} c) legal = ((legal .0 .0, legal .0 .1, honest-carried M P p c (legal .0 .2)), legal-along P c (legal .1))
   legal-along P (called {q = q} {b = b} {l = l} is c) legal = (fair-call-carried c q b is P l (legal .0), legal-along P c (legal .1))
-  legal-along P (refused-alone {q = q} {n = n} {p = p} is c) legal =
-      (λ opened live pass place. false-true (sym (refused-no-pass _ (told-sound c) q n p is) ∙ pass), legal-along P c legal)
+  legal-along P (refused-alone {q = q} {n = n} is c) legal =
+      (λ opened live pass place. false-true (sym (refused-no-pass _ (told-sound c) q n is) ∙ pass), legal-along P c legal)
   legal-along P (delivered {k = k} {p = p} c) legal = (passed-carried k p c (legal .0), legal-along P c (legal .1))
 
   others-same : {L : Carrying M} {N : Carried M} → Carries M L N → otherAnswers M s₀ L ≡ otherAnswers F t₀ N
@@ -263,8 +262,8 @@ module _ {K : Keys} (M : Machine K) (Sound : M .State → Type 0) (keeps : Keeps
   summary-along : {L : Carrying M} {N : Carried M} → Carries M L N → summaryOf M s₀ L ≡ summaryOf F t₀ N
   summary-along c = λ i. record { others = reverse (others-same c i); place = place-same c i; stage = stageOf (sym (told-same c) i .passed) }
 
-pub legal-carried : {K : Keys} (M : Machine K) (Sound : M .State → Type 0) → KeepsTo K M Sound → LegalCarried M Sound
+pub legal-carried : (M : Machine) (Sound : M .State → Type 0) → KeepsTo M Sound → LegalCarried M Sound
 legal-carried M Sound keeps s₀ sound P L N carries legal = legal-along M Sound keeps s₀ sound P carries legal
 
-pub summary-carried : {K : Keys} (M : Machine K) (Sound : M .State → Type 0) → KeepsTo K M Sound → SummaryCarried M Sound
+pub summary-carried : (M : Machine) (Sound : M .State → Type 0) → KeepsTo M Sound → SummaryCarried M Sound
 summary-carried M Sound keeps s₀ sound L N carries = summary-along M Sound keeps s₀ sound carries

@@ -11,12 +11,13 @@ use Rattle.connection.specs.Ranges.{sequenceMet, ackMet}
 use Rattle.connection.specs.Stages.{lifeOf, withFin, finsAfter, openStage, stageAfter}
 use Rattle.connection.specs.Decision.{sameSyn, reply, verdictUnanswered, verdictByRanges, verdictOn, opened, repeated, answered, carried, passed}
 use Rattle.history.specs.History.{finsOf, stageOf}
-use Rattle.honest.specs.Rows.{matches, senderOf, firstFrom, unmatched, matched, filter}
+use Rattle.rows.specs.Places.{firstFrom}
+use Rattle.rows.specs.Rows.{fromOpener, fromAnswerer, liveMatch, vacant, senderOf, entryWith, onEntry, openingEntry, unmatched, onSegment}
 use Rattle.honest.specs.Rules
 use Rattle.honest.specs.Rules.{sentBy, receivedBy, highest, some}
 use Rattle.honest.specs.Honest.{passes, afterCall, told, Legal, NeverBlocked}
-use Rattle.honest.specs.IPv4.{IPv4}
-use Rattle.honest.specs.Instance.{listMachine}
+use Rattle.address.specs.Flows.{sameFlow}
+use Rattle.honest.specs.Instance.{viewMachine}
 use Rattle.honest.specs.Carries.{summaryOf}
 use Rattle.honest.specs.Marked.{empty}
 use Rattle.honest.specs.Witness.{ends, witness}
@@ -25,16 +26,16 @@ use Rattle.honest.proofs.Instance.{demand3-list, fresh-sound}
 
 computed :
     (legal? empty ends witness ≡ true)
-    × (summaryOf (listMachine IPv4) empty witness ≡ record { others = 0 ∷ 11 ∷ 14 ∷ 0 ∷ []; place = 1; stage = 5 })
-unfolding if_then_else_ wrap ringPlus ringMinus nearest further sent granted written sequenceMet ackMet lifeOf withFin finsAfter openStage stageAfter sameSyn reply verdictUnanswered verdictByRanges verdictOn opened repeated answered carried passed finsOf stageOf matches senderOf firstFrom unmatched matched filter sentBy receivedBy highest some passes afterCall told Rules.answered
+    × (summaryOf (viewMachine (λ p. p)) empty witness ≡ record { others = 0 ∷ 11 ∷ 14 ∷ 0 ∷ []; place = 1; stage = 5 })
+unfolding if_then_else_ wrap ringPlus ringMinus nearest further sent granted written sequenceMet ackMet lifeOf withFin finsAfter openStage stageAfter sameSyn reply verdictUnanswered verdictByRanges verdictOn opened repeated answered carried passed finsOf stageOf firstFrom fromOpener fromAnswerer liveMatch vacant senderOf entryWith onEntry openingEntry unmatched onSegment sameFlow sentBy receivedBy highest some passes afterCall told Rules.answered
 computed = (refl, refl)
 
-pub witness-legal : Legal (listMachine IPv4) empty ends witness
+pub witness-legal : Legal (viewMachine (λ p. p)) empty ends witness
 witness-legal = legal?-sound empty ends witness (computed .0)
 
-pub witness-passes : NeverBlocked (listMachine IPv4) empty witness
-witness-passes = demand3-list IPv4 empty (fresh-sound IPv4 64) ends (omega arith) witness witness-legal
+pub witness-passes : NeverBlocked (viewMachine (λ p. p)) empty witness
+witness-passes = demand3-list (λ p. p) empty (fresh-sound (λ p. p) 64) ends (omega arith) witness witness-legal
 
 -- of the calls that are no arrivals, the two openings pass and the two others are blocked; every FIN has passed
-pub witness-shows : summaryOf (listMachine IPv4) empty witness ≡ record { others = 0 ∷ 11 ∷ 14 ∷ 0 ∷ []; place = 1; stage = 5 }
+pub witness-shows : summaryOf (viewMachine (λ p. p)) empty witness ≡ record { others = 0 ∷ 11 ∷ 14 ∷ 0 ∷ []; place = 1; stage = 5 }
 witness-shows = computed .1

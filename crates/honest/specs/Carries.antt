@@ -5,28 +5,27 @@ use Prim.Native.Nat.{ℕ, zero, suc}
 use mathlib.Core.Path.{_≡_}
 use mathlib.Core.List.{List, [], _∷_, reverse}
 use Rattle.history.specs.History.{LineSegment, stageOf}
-use Rattle.honest.specs.Keys.{Keys}
-use Rattle.honest.specs.Rows.{Ask}
+use Rattle.rows.specs.Rows.{Ask}
 use Rattle.honest.specs.Machine.{Reading, refused, asks, apart, Machine}
 use Rattle.honest.specs.Rules.{Label, opening, arrival, other, Event, send, call, delivery, Pair}
 use Rattle.honest.specs.Honest.{told, said, Legal}
-use Rattle.honest.specs.Instance.{ListCall, listMachine}
+use Rattle.honest.specs.Instance.{ViewCall, viewMachine}
 
 -- the same sendings, deliveries and labels, and each call asks what the filter's asks, or is refused and stands for none
-pub data Carries {K : Keys} (M : Machine K) : List (Event (M .Call)) → List (Event (ListCall K)) → Type 0 where
+pub data Carries (M : Machine) : List (Event (M .Call)) → List (Event ViewCall) → Type 0 where
   none : Carries M [] []
   sent :
-      {p : LineSegment} {L : List (Event (M .Call))} {N : List (Event (ListCall K))} → Carries M L N →
+      {p : LineSegment} {L : List (Event (M .Call))} {N : List (Event ViewCall)} → Carries M L N →
       Carries M (send p ∷ L) (send p ∷ N)
   called :
-      {q : M .Call} {b : ListCall K} {l : Label} {L : List (Event (M .Call))} {N : List (Event (ListCall K))} →
+      {q : M .Call} {b : ViewCall} {l : Label} {L : List (Event (M .Call))} {N : List (Event ViewCall)} →
       M .reads q ≡ asks (b .0) → Carries M L N →
       Carries M (call q l ∷ L) (call b l ∷ N)
   refused-alone :
-      {q : M .Call} {n p : ℕ} {L : List (Event (M .Call))} {N : List (Event (ListCall K))} → M .reads q ≡ refused n p → Carries M L N →
+      {q : M .Call} {n : ℕ} {L : List (Event (M .Call))} {N : List (Event ViewCall)} → M .reads q ≡ refused n → Carries M L N →
       Carries M (call q other ∷ L) N
   delivered :
-      {k : ℕ} {p : LineSegment} {L : List (Event (M .Call))} {N : List (Event (ListCall K))} → Carries M L N →
+      {k : ℕ} {p : LineSegment} {L : List (Event (M .Call))} {N : List (Event ViewCall)} → Carries M L N →
       Carries M (delivery k p ∷ L) (delivery k p ∷ N)
 
 -- A list whose calls are made from the filter's
@@ -44,7 +43,7 @@ withOther (suc k) q [] = call q other ∷ []
 withOther (suc k) q (x ∷ L) = x ∷ withOther k q L
 
 -- what the calls of a list are read as
-abbrev pub readings : {K : Keys} (M : Machine K) → List (Event (M .Call)) → List (Reading (Ask K))
+abbrev pub readings : (M : Machine) → List (Event (M .Call)) → List (Reading Ask)
 readings M [] = []
 readings M (send p ∷ L) = readings M L
 readings M (call q l ∷ L) = M .reads q ∷ readings M L
@@ -61,11 +60,11 @@ pub record Summary : Type 0 where
 
 -- an answer before others, if its call asks something
 abbrev pub ifAsked : {A : Type 0} → Reading A → ℕ → List ℕ → List ℕ
-ifAsked (refused n p) answer l = l
+ifAsked (refused n) answer l = l
 ifAsked (asks a) answer l = answer ∷ l
 ifAsked apart answer l = l
 
-module _ {K : Keys} (M : Machine K) (s₀ : M .State) where
+module _ (M : Machine) (s₀ : M .State) where
   -- newest first
   abbrev pub otherAnswers : List (Event (M .Call)) → List ℕ
   otherAnswers [] = []
@@ -81,15 +80,15 @@ module _ {K : Keys} (M : Machine K) (s₀ : M .State) where
 
 -- The claims: of a machine, from every sound state, for every list that carries another
 
-module _ {K : Keys} (M : Machine K) (Sound : M .State → Type 0) where
+module _ (M : Machine) (Sound : M .State → Type 0) where
   -- if that is legal over the filter from the table that the state is, the list is legal over the machine
   abbrev pub LegalCarried : Type 0
   LegalCarried =
-      (s₀ : M .State) → Sound s₀ → (P : Pair K) → (L : List (Event (M .Call))) (N : List (Event (ListCall K))) → Carries M L N →
-      Legal (listMachine K) (M .view s₀) P N → Legal M s₀ P L
+      (s₀ : M .State) → Sound s₀ → (P : Pair) → (L : List (Event (M .Call))) (N : List (Event ViewCall)) → Carries M L N →
+      Legal (viewMachine (M .number)) (M .view s₀) P N → Legal M s₀ P L
 
   -- it comes to the same
   abbrev pub SummaryCarried : Type 0
   SummaryCarried =
-      (s₀ : M .State) → Sound s₀ → (L : List (Event (M .Call))) (N : List (Event (ListCall K))) → Carries M L N →
-      summaryOf M s₀ L ≡ summaryOf (listMachine K) (M .view s₀) N
+      (s₀ : M .State) → Sound s₀ → (L : List (Event (M .Call))) (N : List (Event ViewCall)) → Carries M L N →
+      summaryOf M s₀ L ≡ summaryOf (viewMachine (M .number)) (M .view s₀) N

@@ -1,16 +1,17 @@
 -- The filter over histories: each entry keeps the segments that passed on its connection, on the unwrapped line, and bounds I to
--- IV over them decide (in stage 1, the three segments). And which entry of the table stands for such a one.
+-- IV over them decide (in stage 1, the three segments). And what the table has for such an entry.
 use Prim.Native.Nat.{ℕ, _+_}
-use mathlib.Core.Path.{_≡_}
 use mathlib.Core.List.{List, [], _∷_}
+use Rattle.choice.specs.Choice.{_=ᵇ_}
 use Rattle.segment.specs.declared.Segment.{Segment}
 use Rattle.connection.specs.Stages.{lifeOf}
-use Rattle.connection.specs.Decision.{free}
+use Rattle.connection.specs.Ends.{zeros}
 use Rattle.connection.specs.declared.Connection.{Connection}
-use Rattle.history.specs.History.{LineSegment, stageOf, placed, judge, Holds}
-use Rattle.honest.specs.Keys.{Keys}
-use Rattle.honest.specs.Rows.{Bodies, Entry}
-use Rattle.honest.specs.Connections.{connections}
+use Rattle.connection.specs.declared.End.{End}
+use Rattle.history.specs.Numbers.{onRing}
+use Rattle.history.specs.History.{LineSegment, numbersOf, finsOf, stageOf, placed, judge}
+use Rattle.rows.specs.Rows.{Bodies, View}
+use Rattle.rows.specs.Connections.{connections}
 
 -- newest first; a free entry has no segments
 pub record History : Type 0 where
@@ -31,16 +32,18 @@ histories = record {
   passed = λ (h : History) (i : ℕ) (g : Segment) (now : ℕ). grown (h .side) (placed (h .segments) i g ∷ h .segments) now;
   opened = λ (side : ℕ) (g : Segment) (now : ℕ). grown side (placed [] 0 g ∷ []) now;
   free = record { side = 0; deadline = 0; segments = [] };
+  freed = λ (h : History). stageOf (h .segments) =ᵇ 0;
 }
 
--- the history's six numbers modulo 2^32, its FIN bits and its stage; all zeros where there is none
-abbrev pub HoldsOrFree : Connection → List LineSegment → Type 0
-HoldsOrFree c [] = c ≡ free
-HoldsOrFree c (p ∷ h) = Holds c (p ∷ h)
+-- What the table has for it
 
--- an entry of the table stands for one with a history
-pub record Stands {K : Keys} (e : Entry K connections) (f : Entry K histories) : Type 0 where
-  pub key : e .key ≡ f .key
-  pub side : e .connection .side ≡ f .connection .side
-  pub deadline : e .connection .deadline ≡ f .connection .deadline
-  pub numbers : HoldsOrFree (e .connection) (f .connection .segments)
+-- the opener's record and the answerer's: the six numbers modulo 2^32; zeros where no segment has passed
+abbrev pub recordsOf : List LineSegment → List End
+recordsOf [] = zeros ∷ zeros ∷ []
+recordsOf (p ∷ h) = onRing (numbersOf 0 (p ∷ h)) ∷ onRing (numbersOf 1 (p ∷ h)) ∷ []
+
+abbrev pub connectionOf : History → Connection
+connectionOf h = record { stage = stageOf (h .segments); side = h .side; fins = finsOf (h .segments); deadline = h .deadline; ends = recordsOf (h .segments) }
+
+abbrev pub inNumbers : View histories → View connections
+inNumbers u = record { clock = u .clock; places = u .places; entry = λ p. record { key = u .entry p .key; connection = connectionOf (u .entry p .connection) } }

@@ -4,17 +4,17 @@ use mathlib.Core.Path.{_≡_}
 use mathlib.Core.Logic.{_⊎_}
 use mathlib.Core.Bool.{Bool, true, false}
 use mathlib.Core.List.{List, [], _∷_}
-use lib.ListN.{length}
 use Rattle.choice.specs.Choice.{if_then_else_, _=ᵇ_}
 use Rattle.connection.specs.Stages.{lifeOf}
 use Rattle.history.specs.History.{LineSegment, onWire, stageOf, Formed}
-use Rattle.honest.specs.Keys.{Keys}
-use Rattle.honest.specs.Rows.{Ask, search, nowhere}
-use Rattle.honest.specs.Connections.{connections}
+use Rattle.rows.specs.Rows as rows
+use Rattle.rows.specs.Rows.{Ask, nowhere}
+use Rattle.rows.specs.Connections.{connections}
+use Rattle.rows.specs.declared.Found.the-variants.{Nothing}
 use Rattle.honest.specs.Machine.{Said, asks, Machine, clockIn}
 use Rattle.honest.specs.Rules.{Label, opening, arrival, other, Is, Event, send, call, delivery, Pair, Sent, Arrived, InOrder, sideOf, keyOf, Honest}
 
-module _ {K : Keys} (M : Machine K) where
+module _ (M : Machine) where
   abbrev pub Events : Type 0
   Events = List (Event (M .Call))
 
@@ -28,7 +28,7 @@ module _ {K : Keys} (M : Machine K) where
     pub place : ℕ
     -- the segments that passed on the opening's entry, newest first
     pub passed : List LineSegment
-    -- the largest clock given at any pass so far, 0 before the first
+    -- the largest clock given at any pass so far; before the first the header's, 0 in a fresh table
     pub passClock : ℕ
     -- the pass clock right after the latest pass on the opening's entry plus the life of the stage which that pass gave
     pub until : ℕ
@@ -66,7 +66,7 @@ module _ {K : Keys} (M : Machine K) where
   module _ (s₀ : M .State) where
     -- each call is lent the table that the last one left
     unfoldable pub told : Events → Told
-    told [] = record { state = s₀; opened = false; place = nowhere; passed = []; passClock = 0; until = 0 }
+    told [] = record { state = s₀; opened = false; place = nowhere; passed = []; passClock = M .view s₀ .clock; until = 0 }
     told (send p ∷ L) = told L
     told (call q l ∷ L) = afterCall (told L) q l
     told (delivery k p ∷ L) = told L
@@ -88,20 +88,20 @@ module _ {K : Keys} (M : Machine K) where
   -- What is asked of each event, by those before it
 
   -- the call brings its end's k-th sending, sent before: its numbers modulo 2^32, with that end's side and a clock
-  pub record Arrives (P : Pair K) (k : ℕ) (p : LineSegment) (q : M .Call) (L : Events) : Type 0 where
+  pub record Arrives (P : Pair) (k : ℕ) (p : LineSegment) (q : M .Call) (L : Events) : Type 0 where
     pub sent : Sent k p L
     pub clock : ℕ
     pub brings : M .reads q ≡ asks (record { side = sideOf P (p .from); clock = clock; key = keyOf P (p .from); segment = onWire p })
 
-  module _ (s₀ : M .State) (P : Pair K) where
+  module _ (s₀ : M .State) (P : Pair) where
     -- the opening: an arrival of the opener's SYN that finds no live match and is answered 0
     pub record Opening (k : ℕ) (p : LineSegment) (q : M .Call) (L : Events) : Type 0 where
       pub first-one : told s₀ L .opened ≡ false
       pub arrives : Arrives P k p q L
       pub opener : p .from ≡ 0
       pub finds-none :
-          (a : Ask K) → M .reads q ≡ asks a →
-          search K connections (M .view (told s₀ L .state)) a ≡ length (M .view (told s₀ L .state) .entries)
+          (a : Ask) → M .reads q ≡ asks a →
+          let v = M .view (told s₀ L .state) in rows.search connections v (rows.clockUsed connections v a) (a .side) (a .key) ≡ Nothing
       pub answered-0 : passes (told s₀ L) q ≡ true
 
     -- an arrival after it
@@ -138,7 +138,7 @@ module _ {K : Keys} (M : Machine K) where
   NeverBlocked s₀ (delivery k p ∷ L) = NeverBlocked s₀ L
 
 -- Demand 3 of a machine: from every sound state, for every pair and every legal list
-abbrev pub Demand3 : {K : Keys} (M : Machine K) → (M .State → Type 0) → Type 0
-Demand3 {K} M Sound =
-    (s₀ : M .State) → Sound s₀ → (P : Pair K) → P .side ≤ 1 → (L : List (Event (M .Call))) →
+abbrev pub Demand3 : (M : Machine) → (M .State → Type 0) → Type 0
+Demand3 M Sound =
+    (s₀ : M .State) → Sound s₀ → (P : Pair) → P .side ≤ 1 → (L : List (Event (M .Call))) →
     Legal M s₀ P L → NeverBlocked M s₀ L

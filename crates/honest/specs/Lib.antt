@@ -1,14 +1,10 @@
-pub mod Keys
-pub mod Rows
-pub mod Connections
+pub mod Sound
 pub mod Machine
 pub mod Rules
 pub mod Honest
 pub mod Histories
 pub mod Demand2
-pub mod Typed
 pub mod Instance
 pub mod Carries
-pub mod IPv4
 pub mod Marked
 pub mod Witness

@@ -2,16 +2,17 @@
 use Prim.Native.Nat.{ℕ}
 use mathlib.Core.Bool.{Bool, true, _&&_}
 use mathlib.Core.List.{List, [], _∷_}
-use lib.ListN.{getD, replicate}
 use Rattle.choice.specs.Choice.{_=ᵇ_, if_then_else_}
 use Rattle.segment.specs.Flags.{SYN, SYN+ACK, ACK}
 use Rattle.segment.specs.declared.Segment.{Segment}
 use Rattle.connection.specs.Ends.{count, seqNum, sender}
 use Rattle.connection.specs.declared.End.{End}
-use Rattle.honest.specs.Rows.{Entry, Table, Ask, freeEntry, filter, nowhere}
-use Rattle.honest.specs.Connections.{connections}
+use Rattle.rows.specs.Rows as rows
+use Rattle.rows.specs.Rows.{Entry, View, Ask, Passed, filter, answerOf, placeBy, nowhere}
+use Rattle.rows.specs.Connections.{connections}
 use Rattle.honest.specs.Demand2.{fresh}
-use Rattle.honest.specs.IPv4.{Addresses, IPv4, address}
+use Rattle.address.specs.Flows.{address, endpoint, between, reversed}
+use Rattle.address.specs.declared.Flow.{Flow}
 
 -- Calls
 
@@ -20,38 +21,38 @@ abbrev pub segment : (flags s n a w : ℕ) → Segment
 segment flags s n a w = record { seq = seqNum s; ack = seqNum a; window = count w; flags = flags; octets = count n }
 
 -- from 10.0.0.1 port 1024, on side 0, to 10.0.0.2 port 80
-abbrev pub outward : Addresses
-outward = record { source = address 10 0 0 1; sourcePort = 1024; destination = address 10 0 0 2; destinationPort = 80 }
+abbrev pub outward : Flow
+outward = between (endpoint (address 10 0 0 1) 1024) (endpoint (address 10 0 0 2) 80)
 
-abbrev pub byOpener : ℕ → Segment → Ask IPv4
+abbrev pub byOpener : ℕ → Segment → Ask
 byOpener clock g = record { side = 0; clock = clock; key = outward; segment = g }
 
 -- back, on side 1
-abbrev pub byAnswerer : ℕ → Segment → Ask IPv4
-byAnswerer clock g = record { side = 1; clock = clock; key = record { source = address 10 0 0 2; sourcePort = 80; destination = address 10 0 0 1; destinationPort = 1024 }; segment = g }
+abbrev pub byAnswerer : ℕ → Segment → Ask
+byAnswerer clock g = record { side = 1; clock = clock; key = reversed outward; segment = g }
 
 -- Tables
 
-abbrev pub after : Table IPv4 connections → Ask IPv4 → Table IPv4 connections
-after t a = filter IPv4 connections t a .table
+abbrev pub after : View connections → Ask → View connections
+after t a = rows.after connections t (filter connections t a)
 
-abbrev pub empty : Table IPv4 connections
-empty = fresh IPv4 connections 64
+abbrev pub empty : View connections
+empty = fresh connections 64
 
 -- the example's packets
-abbrev pub packet1 : Ask IPv4
+abbrev pub packet1 : Ask
 packet1 = byOpener 0 (segment SYN 100 1 0 1000)
 
-abbrev pub packet2 : Ask IPv4
+abbrev pub packet2 : Ask
 packet2 = byAnswerer 100 (segment SYN+ACK 500 1 101 2000)
 
-abbrev pub packet3 : Ask IPv4
+abbrev pub packet3 : Ask
 packet3 = byOpener 200 (segment ACK 101 0 502 1000)
 
-abbrev pub opened : Table IPv4 connections
+abbrev pub opened : View connections
 opened = after empty packet1
 
-abbrev pub stateK : Table IPv4 connections
+abbrev pub stateK : View connections
 stateK = after opened packet2
 
 -- end, edge and win
@@ -59,11 +60,11 @@ abbrev pub numbers : ℕ → ℕ → ℕ → End
 numbers end edge win = record { end = seqNum end; edge = seqNum edge; win = count win }
 
 -- C11's own records: sender end = edge = 1, other win 1
-abbrev pub entry11 : Entry IPv4 connections
+abbrev pub entry11 : Entry connections
 entry11 = record { key = outward; connection = record { stage = 3; side = 0; fins = 0; deadline = 432000000; ends = numbers 1 1 1 ∷ numbers 1 1 1 ∷ [] } }
 
-abbrev pub state11 : Table IPv4 connections
-state11 = record { clock = 0; entries = entry11 ∷ replicate 63 (freeEntry IPv4 connections) }
+abbrev pub state11 : View connections
+state11 = rows.after connections empty (Passed 0 0 entry11)
 
 -- Cases
 
@@ -79,15 +80,15 @@ pub data Left : Type 0 where
 
 pub record Case : Type 0 where
   pub name : Name
-  pub table : Table IPv4 connections
-  pub call : Ask IPv4
+  pub table : View connections
+  pub call : Ask
   pub answer : ℕ
   pub left : Left
 
-abbrev pub is : (name : Name) (table : Table IPv4 connections) (call : Ask IPv4) (answer : ℕ) → Case
+abbrev pub is : (name : Name) (table : View connections) (call : Ask) (answer : ℕ) → Case
 is name table call answer = record { name = name; table = table; call = call; answer = answer; left = anything }
 
-abbrev pub leaves : (name : Name) (table : Table IPv4 connections) (call : Ask IPv4) (answer : ℕ) (left : Left) → Case
+abbrev pub leaves : (name : Name) (table : View connections) (call : Ask) (answer : ℕ) (left : Left) → Case
 leaves name table call answer left = record { name = name; table = table; call = call; answer = answer; left = left }
 
 -- each line: the case, the table before, the call (clock; flags, s, n, a, w) and the answer
@@ -124,10 +125,10 @@ isLeft (answererEdge n) l = sender l 1 .edge .0 =ᵇ n
 -- the filter gives the answer, place 0 with a pass, and leaves what is said
 abbrev pub holds : Case → Bool
 holds c =
-    let r = filter IPv4 connections (c .table) (c .call) in
-    (r .answer =ᵇ c .answer)
-    && ((r .place =ᵇ (if c .answer =ᵇ 0 then 0 else nowhere))
-    && isLeft (c .left) (getD (r .table .entries) 0 (freeEntry IPv4 connections) .connection .ends))
+    let o = filter connections (c .table) (c .call) in
+    (answerOf connections o =ᵇ c .answer)
+    && ((placeBy (λ p. p) o =ᵇ (if c .answer =ᵇ 0 then 0 else nowhere))
+    && isLeft (c .left) (after (c .table) (c .call) .entry 0 .connection .ends))
 
 abbrev pub allHold : List Case → Bool
 allHold [] = true

@@ -10,7 +10,8 @@ use lib.ListN.{length}
 use Rattle.choice.specs.Choice.{if_then_else_, _=ᵇ_}
 use Rattle.segment.specs.Flags.{syn, rst, ack, SYN, SYN+ACK}
 use Rattle.history.specs.History.{LineSegment}
-use Rattle.honest.specs.Keys.{Keys}
+use Rattle.address.specs.declared.Flow.{Flow}
+use Rattle.address.specs.Flows.{reversed}
 
 -- Events
 
@@ -34,9 +35,9 @@ pub data Event (Call : Type 0) : Type 0 where
   delivery : (k : ℕ) (p : LineSegment) → Event Call
 
 -- two ends: the opener's side, addresses and ports as the opener has them, and the number of each end's SYN
-pub record Pair (K : Keys) : Type 0 where
+pub record Pair : Type 0 where
   pub side : ℕ
-  pub key : K .Key
+  pub key : Flow
   pub start : ℕ → ℕ
 
 -- What was sent, has arrived and was received
@@ -99,13 +100,13 @@ answered i L = if i =ᵇ 0 then some (λ g. g .flags =ᵇ SYN+ACK) (receivedBy 0
 
 -- The honest rules
 
-module _ {K : Keys} (P : Pair K) where
+module _ (P : Pair) where
   -- side, addresses and ports of end i; the answerer's side is the one that the opener's isn't
   abbrev pub sideOf : ℕ → ℕ
   sideOf i = if i =ᵇ 0 then P .side else 1 - P .side
 
-  abbrev pub keyOf : ℕ → K .Key
-  keyOf i = if i =ᵇ 0 then P .key else K .reverse (P .key)
+  abbrev pub keyOf : ℕ → Flow
+  keyOf i = if i =ᵇ 0 then P .key else reversed (P .key)
 
   -- the opener's SYN; the answerer's SYN+ACK, acknowledging the SYN's end
   pub record FirstSegment (p : LineSegment) : Type 0 where

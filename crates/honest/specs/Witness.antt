@@ -15,8 +15,9 @@ use Rattle.serial.proofs.Ring.{wrap-small}
 use Rattle.segment.specs.Flags.{syn, SYN, SYN+ACK, ACK, FIN+ACK}
 use Rattle.history.specs.History.{LineSegment, onWire, Placeable}
 use Rattle.honest.specs.Rules.{opening, arrival, other, Event, send, call, delivery, Pair}
-use Rattle.honest.specs.IPv4.{Addresses, IPv4, address, swapped}
-use Rattle.honest.specs.Instance.{ListCall}
+use Rattle.address.specs.Flows.{address, endpoint, between, reversed}
+use Rattle.address.specs.declared.Flow.{Flow}
+use Rattle.honest.specs.Instance.{ViewCall}
 use Rattle.honest.specs.Marked.{outward}
 
 -- The pair: the opener's SYN is number 2^32 − 3, the answerer's 2^32 − 2
@@ -25,7 +26,7 @@ abbrev pub starts : ℕ → ℕ
 starts zero = 2 ^ 32 - 3
 starts (suc i) = 2 ^ 32 - 2
 
-abbrev pub ends : Pair IPv4
+abbrev pub ends : Pair
 ends = record { side = 0; key = outward; start = starts }
 
 -- Segments
@@ -130,20 +131,20 @@ pub side-known : (i : ℕ) → sideFrom i ≤ 1
 side-known zero = omega arith
 side-known (suc i) = omega arith
 
-abbrev pub keyFrom : ℕ → Addresses
+abbrev pub keyFrom : ℕ → Flow
 keyFrom zero = outward
-keyFrom (suc i) = swapped outward
+keyFrom (suc i) = reversed outward
 
-abbrev pub calls : (side : ℕ) → side ≤ 1 → (clock : ℕ) → Addresses → Piece → ListCall IPv4
+abbrev pub calls : (side : ℕ) → side ≤ 1 → (clock : ℕ) → Flow → Piece → ViewCall
 calls side known clock key p = (record { side = side; clock = clock; key = key; segment = onWire (p .line) }, known, placeable (p .line) (p .formed))
 
-abbrev pub brings : (clock : ℕ) → Piece → ListCall IPv4
+abbrev pub brings : (clock : ℕ) → Piece → ViewCall
 brings clock p = calls (sideFrom (p .line .from)) (side-known (p .line .from)) clock (keyFrom (p .line .from)) p
 
 -- Events: of o or a, the k-th sending
 
 abbrev pub Seen : Type 0
-Seen = Event (ListCall IPv4)
+Seen = Event ViewCall
 
 abbrev pub sends : Piece → Seen
 sends p = send (p .line)
@@ -159,7 +160,7 @@ delivers of k = delivery k (of k .line)
 
 -- another connection's segment, on side 0
 abbrev pub strays : (clock host port : ℕ) → Piece → Seen
-strays clock host port p = call (calls 0 (omega arith) clock (record { source = address 10 0 0 host; sourcePort = port; destination = address 10 0 0 2; destinationPort = 80 }) p) other
+strays clock host port p = call (calls 0 (omega arith) clock (between (endpoint (address 10 0 0 host) port) (endpoint (address 10 0 0 2) 80)) p) other
 
 -- a segment in the pair's name that no end has sent
 abbrev pub forges : (clock : ℕ) → Piece → Seen

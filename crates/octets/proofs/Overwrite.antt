@@ -6,7 +6,7 @@ use native.Mathlib.Omega.{arith}
 use native.Mathlib.Nat.{add-zero, zero-add}
 use native.Mathlib.Numerals.{add-one}
 use lib.ListN.{length, getD, take, drop, set, length-append, length-drop, take-append-drop}
-use lib.Seq.{getD-take, getD-drop, length-take-le, take-at, drop-at, drop-drop, set-split, take-set-le, take-suc, take-append-seam}
+use lib.Seq.{getD-take, getD-drop, length-take-le, take-at, drop-at, drop-drop, set-split, take-set-le, take-suc, take-add, take-append-seam}
 use Rattle.octets.specs.Digits.{tabulate}
 use Rattle.octets.specs.Overwrite.{overwrite}
 use Rattle.octets.proofs.Digits.{length-tabulate}
@@ -159,3 +159,12 @@ four-sets≡overwrite l at a b c d fits =
     ∙ ap (λ (k : ℕ). set (set half (at + 2) c) k d) (sym past)
     ∙ second
     ∙ overwrite-join l at 2 (a ∷ b ∷ []) (c ∷ d ∷ []) refl (omega arith)
+
+-- two parts of a list that stand side by side are one part
+pub part-append :
+    (t : List ℕ) (n m at next : ℕ) (xs ys : List ℕ) → at + n ≡ next → xs ≡ take n (drop at t) → ys ≡ take m (drop next t) →
+    xs ++ ys ≡ take (n + m) (drop at t)
+part-append t n m at next xs ys there first second =
+    (λ i. first i ++ second i)
+    ∙ ap (λ (k : List ℕ). take n (drop at t) ++ take m k) (ap (λ (k : ℕ). drop k t) (sym there) ∙ sym (drop-drop n at t))
+    ∙ sym (take-add n m (drop at t))

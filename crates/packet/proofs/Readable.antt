@@ -1,5 +1,5 @@
 -- Every segment that reading a packet gives is readable.
-use Prim.Native.Nat.{ℕ, _+_, _*_, _/_, _<_}
+use Prim.Native.Nat.{ℕ, _+_, _-_, _*_, _/_, _<_}
 use mathlib.Core.Path.{_≡_, refl, sym, _∙_}
 use mathlib.Core.Bool.{Bool, true, false}
 use mathlib.Core.List.{List}
@@ -12,17 +12,22 @@ use Rattle.octets.proofs.BigEndian.{bigEndian<256^n}
 use Rattle.segment.specs.Flags.{fin, syn, rst, ack, control}
 use Rattle.segment.specs.Readable.{Readable}
 use Rattle.segment.specs.declared.Segment.{Segment}
-use Rattle.packet.specs.Header.{headerLength, totalLength, controlBits}
-use Rattle.packet.specs.Read.{flowOf, segmentOf, payload, readPacket}
-use Rattle.packet.specs.Tails.{row10, rows6to10}
+use Rattle.packet.specs.Header.{controlBits, headerLength}
+use Rattle.packet.specs.Read.{flowOf, segmentOf, payload, carried, afterHeader, rows9to10, readPacket}
+use Rattle.packet.specs.declared.IpRead.{IpRead}
+use Rattle.packet.specs.declared.IpRead.the-variants as ip
+use Rattle.address.specs.declared.Version.{Version}
+use Rattle.address.specs.declared.Version.the-variants.{V4, V6}
+use Rattle.packet.specs.Ignored.{packetEnd}
+use Rattle.packet.specs.Tails.{row10, rows6to8}
 use Rattle.packet.specs.declared.Cause.{Cause}
 use Rattle.packet.specs.declared.FlagCheck.{FlagCheck}
 use Rattle.packet.specs.declared.FlagCheck.the-variants.{Bad, Fine}
-use Rattle.packet.specs.declared.Flow.{Flow}
+use Rattle.address.specs.declared.Flow.{Flow}
 use Rattle.packet.specs.declared.PacketRead.{PacketRead}
 use Rattle.packet.specs.declared.PacketRead.the-variants.{Refused, Tcp}
 use Rattle.packet.proofs.Flags.{bit-clear}
-use Rattle.packet.proofs.Read.{afterRow10, readPacket≡row5-then-tail, rows9to10≡row9-then-row10}
+use Rattle.packet.proofs.Read.{carried4≡row5-then-tail, carried6≡rows, rows9to10≡row9-then-row10, afterRow10}
 
 -- What a list gives that took none of its lines
 
@@ -44,17 +49,57 @@ past-check :
 past-check read (Bad cause) e = false-true cc
 past-check read Fine e = (refl, e)
 
-module _ (p : List ℕ) (f : Flow) (g : Segment) (e : readPacket p ≡ Tcp f g) where
-  past-rows5to10 : (row10 (controlBits p (headerLength p)) (payload p (headerLength p) (totalLength p)) ≡ Fine) × (Tcp (flowOf p (headerLength p)) (segmentOf p (headerLength p) (totalLength p)) ≡ Tcp f g)
-  unfolding rows6to10
-  past-rows5to10 =
-      let row5 = past-refusal _ _ (past-refusal _ _ (past-refusal _ _ (past-refusal _ _ (past-refusal _ _ (sym (readPacket≡row5-then-tail p) ∙ e))))) in
-      let row8 = past-refusal _ _ (past-refusal _ _ (past-refusal _ _ row5)) in
-      let row9 = past-refusal _ _ (past-refusal _ _ (past-refusal _ _ (sym (rows9to10≡row9-then-row10 p (headerLength p) (totalLength p)) ∙ row8))) in
-      past-check _ _ row9
+past-bad-header : {h t : ℕ} {rest : IpRead} (b : Bool) (cause : Cause) → (if b then ip.Bad cause else rest) ≡ ip.Carries h t → rest ≡ ip.Carries h t
+unfolding if_then_else_
+past-bad-header true cause e = false-true cc
+past-bad-header false cause e = e
 
-  pub segment-of : (f ≡ flowOf p (headerLength p)) × (g ≡ segmentOf p (headerLength p) (totalLength p))
-  segment-of = let same = past-rows5to10 .1 in (cc, cc)
+same-end : (h t h' t' : ℕ) → ip.Carries h t ≡ ip.Carries h' t' → (h ≡ h') × (t ≡ t')
+same-end h t h' t' e = (cc, cc)
+
+abbrev headerEnd : Version → List ℕ → ℕ
+headerEnd V4 p = headerLength p
+headerEnd V6 p = 40
+
+-- where TCP's header begins, and where the packet ends
+pub carried-end : (v : Version) (p : List ℕ) (h t : ℕ) → carried v p ≡ ip.Carries h t → (headerEnd v p ≡ h) × (packetEnd v p ≡ t)
+unfolding rows6to8
+carried-end V4 p h t e =
+    let row5 = past-bad-header _ _ (past-bad-header _ _ (past-bad-header _ _ (past-bad-header _ _ (past-bad-header _ _ (sym (carried4≡row5-then-tail p) ∙ e))))) in
+    same-end _ _ h t (past-bad-header _ _ (past-bad-header _ _ (past-bad-header _ _ row5)))
+carried-end V6 p h t e =
+    same-end _ _ h t (past-bad-header _ _ (past-bad-header _ _ (past-bad-header _ _ (past-bad-header _ _ (sym (carried6≡rows p) ∙ e)))))
+
+-- at most 65,535 octets follow the IP header
+carried-span : (v : Version) (p : List ℕ) (h t : ℕ) → Octets p → carried v p ≡ ip.Carries h t → t - h < 65536
+carried-span V4 p h t octets e = omega (arith, carried-end V4 p h t e .1, bigEndian<256^n 2 p 2 octets)
+carried-span V6 p h t octets e = omega (arith, carried-end V6 p h t e .0, carried-end V6 p h t e .1, bigEndian<256^n 2 p 4 octets)
+
+-- where a packet's flow and segment stand
+pub record Stands (v : Version) (p : List ℕ) (f : Flow) (g : Segment) : Type 0 where
+  pub h : ℕ
+  pub t : ℕ
+  pub carries : carried v p ≡ ip.Carries h t
+  pub fine : row10 (controlBits p h) (payload p h t) ≡ Fine
+  pub flow : f ≡ flowOf v p h
+  pub segment : g ≡ segmentOf p h t
+
+module _ (v : Version) (p : List ℕ) (f : Flow) (g : Segment) where
+  past-rows9to10 :
+      (h t : ℕ) → rows9to10 v p h t ≡ Tcp f g →
+      (row10 (controlBits p h) (payload p h t) ≡ Fine) × (Tcp (flowOf v p h) (segmentOf p h t) ≡ Tcp f g)
+  past-rows9to10 h t e =
+      past-check _ _ (past-refusal _ _ (past-refusal _ _ (past-refusal _ _ (sym (rows9to10≡row9-then-row10 v p h t) ∙ e))))
+
+  pub segment-of : readPacket v p ≡ Tcp f g → Stands v p f g
+  segment-of = go (carried v p) refl
+    where
+      go : (r : IpRead) → carried v p ≡ r → afterHeader v p r ≡ Tcp f g → Stands v p f g
+      go (ip.Bad cause) is e = false-true cc
+      go (ip.Carries h t) is e =
+          let both = past-rows9to10 h t e in
+          let same = both .1 in
+          record { h = h; t = t; carries = is; fine = both .0; flow = cc; segment = cc }
 
 -- The flags
 
@@ -100,7 +145,7 @@ module _ (f n : ℕ) (fine : row10 f n ≡ Fine) where
 -- The segment
 
 segmentOf-readable :
-    (p : List ℕ) (h t : ℕ) → Octets p → t < 65536 → row10 (controlBits p h) (payload p h t) ≡ Fine →
+    (p : List ℕ) (h t : ℕ) → Octets p → t - h < 65536 → row10 (controlBits p h) (payload p h t) ≡ Fine →
     Readable (segmentOf p h t)
 segmentOf-readable p h t octets small fine =
     let x : ℕ = controlBits p h in
@@ -117,7 +162,7 @@ segmentOf-readable p h t octets small fine =
       no-syn-fin = λ s. let none = row10-no-syn-fin x n fine (syn-x s) in (fin-control x ∙ none .0, rst-control x ∙ none .1);
     }
 
-pub read-readable : (p : List ℕ) (f : Flow) (g : Segment) → Octets p → readPacket p ≡ Tcp f g → Readable g
-read-readable p f g octets e =
-    rw (segment-of p f g e .1)
-    (segmentOf-readable p (headerLength p) (totalLength p) octets (omega (arith, bigEndian<256^n 2 p 2 octets)) (past-rows5to10 p f g e .0))
+pub read-readable : (v : Version) (p : List ℕ) (f : Flow) (g : Segment) → Octets p → readPacket v p ≡ Tcp f g → Readable g
+read-readable v p f g octets e =
+    let s = segment-of v p f g e in
+    rw (s .segment) (segmentOf-readable p (s .h) (s .t) octets (carried-span v p (s .h) (s .t) octets (s .carries)) (s .fine))

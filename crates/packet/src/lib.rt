@@ -2,31 +2,27 @@
 ghost use mathlib.Core.Path.{_≡_};
 ghost use Prim.Native.Nat.{_+_, _%_, _≤_, _<_};
 ghost use lib.ListN.{length};
+ghost use Rattle.address.specs.Address.{addressSize};
 ghost use Rattle.segment.specs.Flags.{control};
 ghost use Rattle.packet.specs.Header.{dataOffset};
 ghost use Rattle.packet.specs.Sum.{onesSum, wordSum};
-ghost use Rattle.packet.specs.Read.{flowOf, segmentOf, readPacket, causeNumber, refusalNumber, packetRefusal};
-ghost use Rattle.packet.specs.Tails.{row10, rows9to10, rows6to10};
+ghost use Rattle.packet.specs.Read.{sourceAt, flowOf, segmentOf, carried4, carried6, carried, Inside, rows9to10, readPacket, causeNumber, refusalNumber, packetRefusal};
+ghost use Rattle.packet.specs.Tails.{row10, rows6to8};
+use address::Flow;
+use address::Version;
+use address::read_flow;
 use octets::read16;
 use octets::read32;
 use segment::Segment;
 use serial::OctetCount;
 use serial::SeqNum;
 
-// Addresses and ports, the sender's first.
-pub struct Flow {
-    pub source: u32,
-    pub destination: u32,
-    pub sport: u16,
-    pub dport: u16,
-}
-
 // Why a packet is refused.
 pub enum Cause {
     // 5: under 20 bytes.
     Short,
     // 5: version not 4.
-    Version,
+    OtherVersion,
     // 5: header length under 20.
     HeaderLength,
     // 5: total length below header length.
@@ -53,6 +49,12 @@ pub enum Cause {
     SynPayload,
 }
 
+// What an IP header says: why the packet is refused, or where TCP's header begins and where the packet ends.
+enum IpRead {
+    Bad(Cause),
+    Carries(usize, usize),
+}
+
 pub enum PacketRead {
     Refused(Cause),
     Tcp(Flow, Segment),
@@ -71,7 +73,7 @@ impl Cause {
     {
         match self {
             Cause::Short => 5,
-            Cause::Version => 5,
+            Cause::OtherVersion => 5,
             Cause::HeaderLength => 5,
             Cause::TotalBelowHeader => 5,
             Cause::TotalAboveGiven => 5,
@@ -143,20 +145,26 @@ fn control_bits(flags: u8) -> u8
     flags % 2 + 2 * (flags / 2 % 2) + 4 * (flags / 4 % 2) + 16 * (flags / 16 % 2)
 }
 
-fn read_flow(s: &[u8], h: usize) -> Flow
-    requires { ⌜ (20 ≤ h) × (h + 20 ≤ length (now s)) ⌝ }
-    ensures { λ r. ⌜ r ≡ flowOf (now (s .entry)) h ⌝ }
+// Where the addresses begin.
+fn source_at(version: Version) -> usize
+    ensures { λ r. ⌜ r ≡ sourceAt version ⌝ }
 {
-    Flow {
-        source: read32(s, 12),
-        destination: read32(s, 16),
-        sport: read16(s, h),
-        dport: read16(s, h + 2),
+    match version {
+        Version::V4 => 12,
+        Version::V6 => 8,
     }
 }
 
+// Addresses and ports, by where TCP's header begins.
+fn flow_of(version: Version, s: &[u8], h: usize) -> Flow
+    requires { ⌜ (sourceAt version + addressSize version + addressSize version ≤ h) × (h + 20 ≤ length (now s)) ⌝ }
+    ensures { λ r. ⌜ r ≡ flowOf version (now (s .entry)) h ⌝ }
+{
+    read_flow(version, s, source_at(version), h)
+}
+
 fn read_segment(s: &[u8], h: usize, t: usize) -> Segment
-    requires { ⌜ (h + 20 ≤ t) × (t ≤ length (now s)) × (t < 65536) × (h + dataOffset (now s) h ≤ t) ⌝ }
+    requires { ⌜ (h + 20 ≤ t) × (t ≤ length (now s)) × (t < 65576) × (h + dataOffset (now s) h ≤ t) ⌝ }
     ensures { λ r. ⌜ r ≡ segmentOf (now (s .entry)) h t ⌝ }
 {
     let flags = s[h + 13];
@@ -175,9 +183,9 @@ fn read_segment(s: &[u8], h: usize, t: usize) -> Segment
     }
 }
 
-fn read_tcp(s: &[u8], h: usize, t: usize) -> PacketRead
-    requires { ⌜ (20 ≤ h) × (h ≤ t) × (t ≤ length (now s)) × (t < 65536) ⌝ }
-    ensures { λ r. ⌜ r ≡ rows9to10 (now (s .entry)) h t ⌝ }
+fn read_tcp(version: Version, s: &[u8], h: usize, t: usize) -> PacketRead
+    requires { ⌜ (sourceAt version + addressSize version + addressSize version ≤ h) × (h ≤ t) × (t ≤ length (now s)) × (t < 65576) ⌝ }
+    ensures { λ r. ⌜ r ≡ rows9to10 version (now (s .entry)) h t ⌝ }
 {
     if t - h < 20 {
         return PacketRead::Refused(Cause::TcpShort);
@@ -192,47 +200,87 @@ fn read_tcp(s: &[u8], h: usize, t: usize) -> PacketRead
     let check = check_flags(s[h + 13], t - h - offset);
     match check {
         FlagCheck::Bad(cause) => PacketRead::Refused(cause),
-        FlagCheck::Fine => PacketRead::Tcp(read_flow(s, h), read_segment(s, h, t)),
+        FlagCheck::Fine => PacketRead::Tcp(flow_of(version, s, h), read_segment(s, h, t)),
     }
 }
 
-fn read_ip(s: &[u8], h: usize, t: usize) -> PacketRead
+fn read_ip(s: &[u8], h: usize, t: usize) -> IpRead
     requires { ⌜ (20 ≤ h) × (h ≤ 60) × (h % 4 ≡ 0) × (h ≤ t) × (t ≤ length (now s)) × (t < 65536) ⌝ }
-    ensures { λ r. ⌜ r ≡ rows6to10 (now (s .entry)) h t ⌝ }
+    ensures { λ r. ⌜ (r ≡ rows6to8 (now (s .entry)) h t) × Inside Version.V4 (now (s .entry)) r ⌝ }
 {
     if header_sum(&s[0..h]) != 65535 {
-        return PacketRead::Refused(Cause::HeaderSum);
+        return IpRead::Bad(Cause::HeaderSum);
     }
     if read16(s, 6) % 16384 != 0 {
-        return PacketRead::Refused(Cause::Fragment);
+        return IpRead::Bad(Cause::Fragment);
     }
     if s[9] != 6 {
-        return PacketRead::Refused(Cause::Protocol);
+        return IpRead::Bad(Cause::Protocol);
     }
-    read_tcp(s, h, t)
+    IpRead::Carries(h, t)
 }
 
-// Reads the packet in s; bytes past its total length are ignored.
-pub fn read_packet(s: &[u8]) -> PacketRead
-    ensures { λ r. ⌜ (r ≡ readPacket (now (s .entry))) × (refusalNumber r ≡ packetRefusal (now (s .entry))) ⌝ }
+// The header of an IPv4 packet: rows 5 to 8.
+fn header4(s: &[u8]) -> IpRead
+    ensures { λ r. ⌜ (r ≡ carried4 (now (s .entry))) × Inside Version.V4 (now (s .entry)) r ⌝ }
 {
     if s.len() < 20 {
-        return PacketRead::Refused(Cause::Short);
+        return IpRead::Bad(Cause::Short);
     }
     let first = s[0] as usize;
     if first / 16 != 4 {
-        return PacketRead::Refused(Cause::Version);
+        return IpRead::Bad(Cause::OtherVersion);
     }
     let h = first % 16 * 4;
     if h < 20 {
-        return PacketRead::Refused(Cause::HeaderLength);
+        return IpRead::Bad(Cause::HeaderLength);
     }
     let t = read16(s, 2) as usize;
     if t < h {
-        return PacketRead::Refused(Cause::TotalBelowHeader);
+        return IpRead::Bad(Cause::TotalBelowHeader);
     }
     if s.len() < t {
-        return PacketRead::Refused(Cause::TotalAboveGiven);
+        return IpRead::Bad(Cause::TotalAboveGiven);
     }
     read_ip(s, h, t)
+}
+
+// The header of an IPv6 packet: a fixed header of 40 bytes, no extension headers.
+fn header6(s: &[u8]) -> IpRead
+    ensures { λ r. ⌜ (r ≡ carried6 (now (s .entry))) × Inside Version.V6 (now (s .entry)) r ⌝ }
+{
+    if s.len() < 40 {
+        return IpRead::Bad(Cause::Short);
+    }
+    if s[0] / 16 != 6 {
+        return IpRead::Bad(Cause::OtherVersion);
+    }
+    let n = read16(s, 4) as usize;
+    if s.len() < 40 + n {
+        return IpRead::Bad(Cause::TotalAboveGiven);
+    }
+    if s[6] != 6 {
+        return IpRead::Bad(Cause::Protocol);
+    }
+    IpRead::Carries(40, 40 + n)
+}
+
+fn header(version: Version, s: &[u8]) -> IpRead
+    ensures { λ r. ⌜ (r ≡ carried version (now (s .entry))) × Inside version (now (s .entry)) r ⌝ }
+{
+    match version {
+        Version::V4 => header4(s),
+        Version::V6 => header6(s),
+    }
+}
+
+// Reads a packet; bytes past its total length are ignored.
+pub fn read_packet(version: Version, s: &[u8]) -> PacketRead
+    ensures { λ r. ⌜ (r ≡ readPacket version (now (s .entry))) × (refusalNumber r ≡ packetRefusal version (now (s .entry))) ⌝ }
+{
+    let found = header(version, s);
+    match found {
+        IpRead::Bad(cause) => PacketRead::Refused(cause),
+        IpRead::Carries(h, t) => read_tcp(version, s, h, t),
+    }
 }

@@ -4,4 +4,4 @@ use Rattle.filter.proofs.Fits.{reply-small}
 use Rattle.quaybonnet.specs.Packed.{Unpacked}
 
 pub unpacked : Unpacked
-unpacked side clock t packet = let h = reply-small side clock t packet in (omega (arith, h .1), omega (arith, h .1))
+unpacked v side clock t packet = let h = reply-small v side clock t packet in (omega (arith, h .1), omega (arith, h .1))

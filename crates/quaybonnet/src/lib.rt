@@ -5,6 +5,7 @@ ghost use Rattle.filter.specs.Call.{outcomeOf, replyOf, tableAfter};
 ghost use Rattle.trace.specs.Read.{packetAfterReading, reading};
 ghost use Rattle.trace.specs.Write.{lineAfterWriting, writing};
 ghost use Rattle.quaybonnet.specs.Packed.{packed};
+use address::Version;
 
 // The answer and the place as one number.
 fn pack(answer: u32, place: usize) -> u32
@@ -17,9 +18,9 @@ fn pack(answer: u32, place: usize) -> u32
 // One call of the filter: answer·65,536 + place.
 #[no_mangle]
 pub extern "C" fn qb_filter(side: u8, clock: u64, table: &mut [u8], packet: &[u8]) -> u32
-    ensures { λ r. ⌜ (r ≡ packed (replyOf (outcomeOf side clock (now (table .entry)) (now (packet .entry))))) × (now (table .exit) ≡ tableAfter (now (table .entry)) (outcomeOf side clock (now (table .entry)) (now (packet .entry)))) ⌝ }
+    ensures { λ r. ⌜ (r ≡ packed (replyOf (outcomeOf Version.V4 side clock (now (table .entry)) (now (packet .entry))))) × (now (table .exit) ≡ tableAfter Version.V4 (now (table .entry)) (outcomeOf Version.V4 side clock (now (table .entry)) (now (packet .entry)))) ⌝ }
 {
-    let reply = filter::filter(side, clock, table, packet);
+    let reply = filter::filter(Version::V4, side, clock, table, packet);
     pack(reply.answer, reply.place)
 }
 

@@ -22,8 +22,9 @@ use Rattle.report.specs.Text.{shownText, shownPlace, resultText, totalText}
 use Rattle.report.specs.declared.Shown.{Shown}
 use Rattle.report.specs.declared.Shown.the-variants.{Number, Dash}
 use Rattle.report.proofs.Text.{length-decimalText≤, length-resultText}
-use Rattle.filter.specs.Call.{outcomeOf, replyOf, tableAfter}
-use Rattle.filter.specs.Outcome.{Outcome, Blocked, Passed}
+use Rattle.address.specs.declared.Version.the-variants.{V4}
+use Rattle.rows.specs.Rows.{Blocked, Passed}
+use Rattle.filter.specs.Call.{Outcome, outcomeOf, replyOf, tableAfter}
 use Rattle.filter.specs.declared.Reply.{Reply}
 use Rattle.filter.proofs.Fits.{Within, outcome-within, reply-small}
 use Rattle.replay.specs.Feed.{Memory, memory, withAnswer, withUsed, withResult, withLine, withTotal}
@@ -74,7 +75,7 @@ resultOf-read line t read e = ap (λ r. ofRead r line t) (sym e)
 pub resultOf-frame :
     (line t packet after : List ℕ) (side clock n : ℕ) (reply : Reply) (shown : Shown) → Frame side clock n ≡ readLine line room →
     packet ≡ packetOf line →
-    (reply ≡ replyOf (outcomeOf side clock t packet)) × (after ≡ tableAfter t (outcomeOf side clock t packet)) →
+    (reply ≡ replyOf (outcomeOf V4 side clock t packet)) × (after ≡ tableAfter V4 t (outcomeOf V4 side clock t packet)) →
     shown ≡ shownPlace (reply .place) →
     _≡_ {A = Result} (record { answer = reply .answer; shown = shown; table = after }) (resultOf line t)
 resultOf-frame line t packet after side clock n reply shown whole is called place =
@@ -86,7 +87,7 @@ unfolding readAnswer
 read-never-23 line t TooLong b e = omega arith
 read-never-23 line t (Malformed offset) b e = omega arith
 read-never-23 line t NoRoom b e = b
-read-never-23 line t (Frame side clock n) b e = omega (arith, reply-small side clock t (packetOf line) .0)
+read-never-23 line t (Frame side clock n) b e = omega (arith, reply-small V4 side clock t (packetOf line) .0)
 
 pub never-23 : Never23
 unfolding resultOf
@@ -120,7 +121,7 @@ number-short t answer n small below =
     omega (arith, length-resultText answer (Number n), length-decimalText≤ 1 answer small, length-decimalText≤ 3 n below)
 
 -- an answer of the filter is at most 15, and a place below 512
-call-short : (t : List ℕ) (o : Outcome) → Within t o → Short (ofCall t o)
+call-short : (t : List ℕ) (o : Outcome) → Within V4 t o → Short (ofCall t o)
 unfolding shownPlace
 call-short t (Blocked n) within =
     rw (if-= {a = 65535} {b = 65535} Dash (Number 65535) refl) (dash-short t n (omega (arith, within .1)))
@@ -133,7 +134,7 @@ unfolding readAnswer
 read-short line t TooLong b = dash-short t 21 (omega arith)
 read-short line t (Malformed offset) b = number-short t 22 offset (omega arith) (omega arith)
 read-short line t NoRoom b = absurd b
-read-short line t (Frame side clock n) b = call-short t (outcomeOf side clock t (packetOf line)) (outcome-within side clock t (packetOf line))
+read-short line t (Frame side clock n) b = call-short t (outcomeOf V4 side clock t (packetOf line)) (outcome-within V4 side clock t (packetOf line))
 
 -- so it is for every line
 pub result-short : (line t : List ℕ) → length (resultText (resultOf line t .answer) (resultOf line t .shown)) ≤ resultRoom

@@ -11,8 +11,8 @@ use Rattle.trace.specs.declared.LineRead.the-variants.{TooLong, Malformed, NoRo
 use Rattle.report.specs.Text.{shownPlace, resultText, totalText}
 use Rattle.report.specs.declared.Shown.{Shown}
 use Rattle.report.specs.declared.Shown.the-variants.{Number, Dash}
-use Rattle.filter.specs.Call.{outcomeOf, replyOf, tableAfter}
-use Rattle.filter.specs.Outcome.{Outcome}
+use Rattle.address.specs.declared.Version.the-variants.{V4}
+use Rattle.filter.specs.Call.{Outcome, outcomeOf, replyOf, tableAfter}
 
 -- Lines
 
@@ -42,14 +42,14 @@ room = 2048
 
 -- the place, `-` for 65,535
 abbrev pub ofCall : List ℕ → Outcome → Result
-ofCall t o = record { answer = replyOf o .answer; shown = shownPlace (replyOf o .place); table = tableAfter t o }
+ofCall t o = record { answer = replyOf o .answer; shown = shownPlace (replyOf o .place); table = tableAfter V4 t o }
 
 -- the offset for 22, `-` for 21; a line refused by the reader isn't shown to the filter
 abbrev pub ofRead : LineRead → List ℕ → List ℕ → Result
 ofRead TooLong line t = record { answer = readAnswer TooLong .number; shown = Dash; table = t }
 ofRead (Malformed offset) line t = record { answer = readAnswer (Malformed offset) .number; shown = Number offset; table = t }
 ofRead NoRoom line t = record { answer = readAnswer NoRoom .number; shown = Dash; table = t }
-ofRead (Frame side clock n) line t = ofCall t (outcomeOf side clock t (packetOf line))
+ofRead (Frame side clock n) line t = ofCall t (outcomeOf V4 side clock t (packetOf line))
 
 unfoldable pub resultOf : List ℕ → List ℕ → Result
 resultOf line t = ofRead (readLine line room) line t

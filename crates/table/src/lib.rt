@@ -1,32 +1,32 @@
 // The table of connections in lent bytes: its clock, whether it is sound, the search, and the place of an opening (document 01,
 // "The table").
 ghost use mathlib.Core.Path.{_≡_};
-ghost use mathlib.Core.Bool.{true};
-ghost use Prim.Native.Nat.{_+_, _-_, _^_, _≤_, _<_};
+ghost use Prim.Native.Nat.{_+_, _-_, _*_, _^_, _≤_, _<_};
 ghost use lib.ListN.{length};
 ghost use Rattle.octets.specs.BigEndian.{octetsOf};
 ghost use Rattle.octets.specs.Overwrite.{overwrite};
 ghost use Rattle.connection.specs.Sound.{soundEnd, soundUnanswered};
-ghost use Rattle.entry.specs.Layout.{headerSize, entrySize, placeAt, entryAt};
-ghost use Rattle.table.specs.Table.{headerClock, zerosAt, soundHeader, soundTable, liveMatchAt, vacantAt, firstFrom, sameEndpoint, between, fromOpener, fromAnswerer};
+ghost use Rattle.address.specs.Flows.{sameFlow, reversed};
+ghost use Rattle.entry.specs.Layout.{headerSize, restSize, numbersAt, entrySize, placeAt, entryAt};
+ghost use Rattle.entry.specs.Viewed.{viewed};
+ghost use Rattle.rows.specs.Rows.{fromOpener, fromAnswerer, liveMatch, vacant, search, lowestVacant};
+ghost use Rattle.rows.specs.Connections.{connections};
+ghost use Rattle.table.specs.Table.{headerClock, headerMark, TestsZeros, soundHeader, soundTable, viewOf};
 ghost use Rattle.table.specs.Words.{soundWord, soundNumbers, soundEntry};
+use address::Flow;
+use address::Version;
+use address::flow_is;
+use address::reversed;
 use connection::End;
-use entry::Endpoint;
-use entry::Entry;
+use entry::entry_size;
 use entry::load_end;
+use entry::numbers_at;
 use octets::little32;
-use octets::read16;
-use octets::read32;
 use octets::read64;
 use octets::write64;
+use rows::Found;
 use serial::OctetCount;
 use serial::SeqNum;
-
-// What a search over places gives.
-pub enum Found {
-    At(usize),
-    Nothing,
-}
 
 // Octets in whole words
 
@@ -37,11 +37,19 @@ fn either(a: u64, b: u64) -> u64
     a | b
 }
 
+// The four octets at an offset as one number, 0 exactly where each of them is.
+fn any4(table: &[u8], at: usize) -> u64
+    requires { ⌜ at + 4 ≤ length (now table) ⌝ }
+    ensures { λ r. ⌜ TestsZeros (now (table .entry)) at 4 r ⌝ }
+{
+    little32(table, at) as u64
+}
+
 // The eight octets at an offset as one number, 0 exactly where each of them is. Least significant first, which is one load of the
 // machine; a zero test doesn't ask for the order.
 fn any8(table: &[u8], at: usize) -> u64
     requires { ⌜ at + 8 ≤ length (now table) ⌝ }
-    ensures { λ r. ⌜ (r ≡ 0 → zerosAt (now (table .entry)) at 8 ≡ true) × (zerosAt (now (table .entry)) at 8 ≡ true → r ≡ 0) ⌝ }
+    ensures { λ r. ⌜ TestsZeros (now (table .entry)) at 8 r ⌝ }
 {
     little32(table, at) as u64 + little32(table, at + 4) as u64 * 4294967296
 }
@@ -49,20 +57,45 @@ fn any8(table: &[u8], at: usize) -> u64
 // The same of 16 octets: 0 exactly where each of them is.
 fn any16(table: &[u8], at: usize) -> u64
     requires { ⌜ at + 16 ≤ length (now table) ⌝ }
-    ensures { λ r. ⌜ (r ≡ 0 → zerosAt (now (table .entry)) at 16 ≡ true) × (zerosAt (now (table .entry)) at 16 ≡ true → r ≡ 0) ⌝ }
+    ensures { λ r. ⌜ TestsZeros (now (table .entry)) at 16 r ⌝ }
 {
     either(any8(table, at), any8(table, at + 8))
 }
 
-// The same of 64 octets, a whole entry.
+// The same of 64 octets, a whole IPv4 entry.
 fn any64(table: &[u8], at: usize) -> u64
     requires { ⌜ at + 64 ≤ length (now table) ⌝ }
-    ensures { λ r. ⌜ (r ≡ 0 → zerosAt (now (table .entry)) at 64 ≡ true) × (zerosAt (now (table .entry)) at 64 ≡ true → r ≡ 0) ⌝ }
+    ensures { λ r. ⌜ TestsZeros (now (table .entry)) at 64 r ⌝ }
 {
     either(
         either(any16(table, at), any16(table, at + 16)),
         either(any16(table, at + 32), any16(table, at + 48)),
     )
+}
+
+// The same of a whole entry of either version.
+fn any_entry(version: Version, table: &[u8], at: usize) -> u64
+    requires { ⌜ at + entrySize version ≤ length (now table) ⌝ }
+    ensures { λ r. ⌜ TestsZeros (now (table .entry)) at (entrySize version) r ⌝ }
+{
+    match version {
+        Version::V4 => any64(table, at),
+        Version::V6 => either(
+            any64(table, at),
+            either(any16(table, at + 64), any16(table, at + 80)),
+        ),
+    }
+}
+
+// The same of the zeros that end an entry.
+fn any_rest(version: Version, table: &[u8], at: usize) -> u64
+    requires { ⌜ at + restSize version ≤ length (now table) ⌝ }
+    ensures { λ r. ⌜ TestsZeros (now (table .entry)) at (restSize version) r ⌝ }
+{
+    match version {
+        Version::V4 => any16(table, at),
+        Version::V6 => either(any16(table, at), any8(table, at + 16)),
+    }
 }
 
 // The header
@@ -94,138 +127,111 @@ fn other_side(side: u8) -> u8
     0
 }
 
-fn same_endpoint(x: Endpoint, y: Endpoint) -> bool
-    ensures { λ r. ⌜ r ≡ sameEndpoint x y ⌝ }
+// The entry at an offset has these addresses and ports, the opener's first.
+fn key_is(version: Version, table: &[u8], at: usize, flow: Flow) -> bool
+    requires { ⌜ at + entrySize version ≤ length (now table) ⌝ }
+    ensures { λ r. ⌜ r ≡ sameFlow flow (entryAt version (now (table .entry)) at .key) ⌝ }
 {
-    if x.address != y.address {
-        return false;
-    }
-    x.port == y.port
-}
-
-// Which end sent a segment that matches: the opener, or else the answerer.
-pub fn from_opener(entry: Entry, side: u8, from: Endpoint, to: Endpoint) -> bool
-    ensures { λ r. ⌜ r ≡ fromOpener entry side from to ⌝ }
-{
-    if side != entry.connection.side {
-        return false;
-    }
-    let opener = entry.opener;
-    let answerer = entry.answerer;
-    if !same_endpoint(from, opener) {
-        return false;
-    }
-    same_endpoint(to, answerer)
-}
-
-// The connection at an offset is between two endpoints, the opener's first. The first word differs nearly always.
-fn between_at(table: &[u8], at: usize, x: Endpoint, y: Endpoint) -> bool
-    requires { ⌜ at + entrySize ≤ length (now table) ⌝ }
-    ensures { λ r. ⌜ r ≡ between (entryAt (now (table .entry)) at) x y ⌝ }
-{
-    if x.address != read32(table, at + 4) {
-        return false;
-    }
-    if y.address != read32(table, at + 8) {
-        return false;
-    }
-    if x.port != read16(table, at + 12) {
-        return false;
-    }
-    y.port == read16(table, at + 14)
+    let numbers = numbers_at(version, at);
+    flow_is(version, table, at + 4, numbers - 4, flow)
 }
 
 // The opener's way round, by the entry at an offset.
-fn from_opener_at(table: &[u8], at: usize, side: u8, from: Endpoint, to: Endpoint) -> bool
-    requires { ⌜ at + entrySize ≤ length (now table) ⌝ }
-    ensures { λ r. ⌜ r ≡ fromOpener (entryAt (now (table .entry)) at) side from to ⌝ }
+fn from_opener_at(version: Version, table: &[u8], at: usize, side: u8, flow: Flow) -> bool
+    requires { ⌜ at + entrySize version ≤ length (now table) ⌝ }
+    ensures { λ r. ⌜ r ≡ fromOpener connections (viewed (entryAt version (now (table .entry)) at)) side flow ⌝ }
 {
-    if !between_at(table, at, from, to) {
+    if !key_is(version, table, at, flow) {
         return false;
     }
     side == table[at + 1]
 }
 
 // The answerer's way round.
-fn from_answerer_at(table: &[u8], at: usize, side: u8, from: Endpoint, to: Endpoint) -> bool
-    requires { ⌜ at + entrySize ≤ length (now table) ⌝ }
-    ensures { λ r. ⌜ r ≡ fromAnswerer (entryAt (now (table .entry)) at) side from to ⌝ }
+fn from_answerer_at(version: Version, table: &[u8], at: usize, side: u8, flow: Flow) -> bool
+    requires { ⌜ at + entrySize version ≤ length (now table) ⌝ }
+    ensures { λ r. ⌜ r ≡ fromAnswerer connections (viewed (entryAt version (now (table .entry)) at)) side flow ⌝ }
 {
-    if !between_at(table, at, to, from) {
+    let back = reversed(flow);
+    if !key_is(version, table, at, back) {
         return false;
     }
     side == other_side(table[at + 1])
 }
 
 // Free or expired: a free entry's deadline is 0.
-fn vacant_at(table: &[u8], place: usize, clock: u64) -> bool
-    requires { ⌜ placeAt (place + 1) ≤ length (now table) ⌝ }
-    ensures { λ r. ⌜ r ≡ vacantAt (now (table .entry)) clock place ⌝ }
+fn vacant_at(version: Version, table: &[u8], at: usize, clock: u64) -> bool
+    requires { ⌜ at + entrySize version ≤ length (now table) ⌝ }
+    ensures { λ r. ⌜ r ≡ vacant connections clock (viewed (entryAt version (now (table .entry)) at)) ⌝ }
 {
-    let at = 64 + 64 * place;
-    read64(table, at + 16) <= clock
+    read64(table, numbers_at(version, at)) <= clock
 }
 
 // Live and a match; the deadline is read first.
 fn live_match_at(
+    version: Version,
     table: &[u8],
-    place: usize,
+    at: usize,
     clock: u64,
     side: u8,
-    from: Endpoint,
-    to: Endpoint,
+    flow: Flow,
 ) -> bool
-    requires { ⌜ placeAt (place + 1) ≤ length (now table) ⌝ }
-    ensures { λ r. ⌜ r ≡ liveMatchAt (now (table .entry)) clock side from to place ⌝ }
+    requires { ⌜ at + entrySize version ≤ length (now table) ⌝ }
+    ensures { λ r. ⌜ r ≡ liveMatch connections clock side flow (viewed (entryAt version (now (table .entry)) at)) ⌝ }
 {
-    if vacant_at(table, place, clock) {
+    if vacant_at(version, table, at, clock) {
         return false;
     }
-    let at = 64 + 64 * place;
-    if from_opener_at(table, at, side, from, to) {
+    if from_opener_at(version, table, at, side, flow) {
         return true;
     }
-    from_answerer_at(table, at, side, from, to)
+    from_answerer_at(version, table, at, side, flow)
 }
 
 // The search takes the first live match from place 0 up.
 pub fn find(
+    version: Version,
     table: &[u8],
     places: usize,
     clock: u64,
     side: u8,
-    from: Endpoint,
-    to: Endpoint,
+    flow: Flow,
 ) -> Found
-    requires { ⌜ placeAt places ≤ length (now table) ⌝ }
-    ensures { λ r. ⌜ r ≡ firstFrom (liveMatchAt (now (table .entry)) clock side from to) 0 places ⌝ }
+    requires { ⌜ placeAt version places ≤ length (now table) ⌝ }
+    ensures { λ r. ⌜ r ≡ search connections (viewOf version (now (table .entry)) places) clock side flow ⌝ }
 {
+    let size = entry_size(version);
+    let mut at = 64;
     let mut place = 0;
     let found = loop {
         if places <= place {
             break Found::Nothing;
         }
-        if live_match_at(table, place, clock, side, from, to) {
+        if live_match_at(version, table, at, clock, side, flow) {
             break Found::At(place);
         }
+        at += size;
         place += 1;
     };
     found
 }
 
 // An opening takes the first place that is free or expired.
-pub fn vacant(table: &[u8], places: usize, clock: u64) -> Found
-    requires { ⌜ placeAt places ≤ length (now table) ⌝ }
-    ensures { λ r. ⌜ r ≡ firstFrom (vacantAt (now (table .entry)) clock) 0 places ⌝ }
+pub fn vacant(version: Version, table: &[u8], places: usize, clock: u64) -> Found
+    requires { ⌜ placeAt version places ≤ length (now table) ⌝ }
+    ensures { λ r. ⌜ r ≡ lowestVacant connections (viewOf version (now (table .entry)) places) clock ⌝ }
 {
+    let size = entry_size(version);
+    let mut at = 64;
     let mut next = 0;
     let found = loop {
         if places <= next {
             break Found::Nothing;
         }
-        if vacant_at(table, next, clock) {
+        if vacant_at(version, table, at, clock) {
             break Found::At(next);
         }
+        at += size;
         next += 1;
     };
     found
@@ -262,12 +268,19 @@ fn sound_end(end: End) -> bool
     end.edge.minus(end.end).at_most(OctetCount(65_535))
 }
 
-// Deadline, both records and the last 16 zeros.
-fn sound_numbers(table: &[u8], clock: u64, at: usize, opener: End, answerer: End) -> bool
-    requires { ⌜ (at + entrySize ≤ length (now table)) × (clock < 2 ^ 48) ⌝ }
-    ensures { λ r. ⌜ r ≡ soundNumbers (now (table .entry)) clock at opener answerer ⌝ }
+// Deadline, both records and the zeros that end an entry, by where its numbers begin.
+fn sound_numbers(
+    version: Version,
+    table: &[u8],
+    clock: u64,
+    at: usize,
+    opener: End,
+    answerer: End,
+) -> bool
+    requires { ⌜ (at + 32 + restSize version ≤ length (now table)) × (clock < 2 ^ 48) ⌝ }
+    ensures { λ r. ⌜ r ≡ soundNumbers version (now (table .entry)) clock at opener answerer ⌝ }
 {
-    if clock + 432_000_000 < read64(table, at + 16) {
+    if clock + 432_000_000 < read64(table, at) {
         return false;
     }
     if !sound_end(opener) {
@@ -276,7 +289,7 @@ fn sound_numbers(table: &[u8], clock: u64, at: usize, opener: End, answerer: End
     if !sound_end(answerer) {
         return false;
     }
-    any16(table, at + 48) == 0
+    any_rest(version, table, at + 32) == 0
 }
 
 // In stage 1 the opener's edge equals its end and the answerer has 0, 0, 1.
@@ -296,20 +309,21 @@ fn sound_unanswered(opener: End, answerer: End) -> bool
 }
 
 // The entry at an offset, by the header clock: free, or sound and in use.
-fn sound_entry(table: &[u8], clock: u64, at: usize) -> bool
-    requires { ⌜ (at + entrySize ≤ length (now table)) × (clock < 2 ^ 48) ⌝ }
-    ensures { λ r. ⌜ r ≡ soundEntry (now (table .entry)) clock at ⌝ }
+fn sound_entry(version: Version, table: &[u8], clock: u64, at: usize) -> bool
+    requires { ⌜ (at + entrySize version ≤ length (now table)) × (clock < 2 ^ 48) ⌝ }
+    ensures { λ r. ⌜ r ≡ soundEntry version (now (table .entry)) clock at ⌝ }
 {
     let word = little32(table, at);
     if word == 0 {
-        return any64(table, at) == 0;
+        return any_entry(version, table, at) == 0;
     }
     if !sound_word(word) {
         return false;
     }
-    let opener = load_end(table, at + 24);
-    let answerer = load_end(table, at + 36);
-    if !sound_numbers(table, clock, at, opener, answerer) {
+    let numbers = numbers_at(version, at);
+    let opener = load_end(table, numbers + 8);
+    let answerer = load_end(table, numbers + 20);
+    if !sound_numbers(version, table, clock, numbers, opener, answerer) {
         return false;
     }
     if word % 256 == 1 {
@@ -318,35 +332,51 @@ fn sound_entry(table: &[u8], clock: u64, at: usize) -> bool
     true
 }
 
-// Header clock under 2^48 and the header's rest zero.
-fn sound_header(table: &[u8]) -> bool
+// Header byte 62, as a word with the octets around it.
+fn header_mark(version: Version) -> u32
+    ensures { λ r. ⌜ r ≡ headerMark version * 65536 ⌝ }
+{
+    match version {
+        Version::V4 => 0,
+        Version::V6 => 65_536,
+    }
+}
+
+// Header clock under 2^48, the version's mark, and the header's rest zero.
+fn sound_header(version: Version, table: &[u8]) -> bool
     requires { ⌜ headerSize ≤ length (now table) ⌝ }
-    ensures { λ r. ⌜ r ≡ soundHeader (now (table .entry)) ⌝ }
+    ensures { λ r. ⌜ r ≡ soundHeader version (now (table .entry)) ⌝ }
 {
     if 281_474_976_710_656 <= clock(table) {
         return false;
     }
+    if little32(table, 60) != header_mark(version) {
+        return false;
+    }
     either(
-        any8(table, 8),
-        either(any16(table, 16), either(any16(table, 32), any16(table, 48))),
+        any16(table, 8),
+        either(any16(table, 24), either(any16(table, 40), any4(table, 56))),
     )
         == 0
 }
 
 // Whether the table is sound: its header, and every place.
-pub fn sound(table: &[u8], places: usize) -> bool
-    requires { ⌜ placeAt places ≤ length (now table) ⌝ }
-    ensures { λ r. ⌜ r ≡ soundTable (now (table .entry)) places ⌝ }
+pub fn sound(version: Version, table: &[u8], places: usize) -> bool
+    requires { ⌜ placeAt version places ≤ length (now table) ⌝ }
+    ensures { λ r. ⌜ r ≡ soundTable version (now (table .entry)) places ⌝ }
 {
-    if !sound_header(table) {
+    if !sound_header(version, table) {
         return false;
     }
     let header = clock(table);
+    let size = entry_size(version);
+    let mut at = 64;
     let mut checked = 0;
     while checked < places {
-        if !sound_entry(table, header, 64 + 64 * checked) {
+        if !sound_entry(version, table, header, at) {
             return false;
         }
+        at += size;
         checked += 1;
     }
     true

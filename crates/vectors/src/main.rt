@@ -12,8 +12,9 @@
 //   ANSWER LENGTH TEXT
 // where HEX and TEXT are all NNNNN bytes, each '.' before, or '-' where there are none.
 ghost use Prim.Native.Nat.{_≤_, _<_};
+use address::Flow;
+use address::Version;
 use libc::STDOUT_FILENO;
-use packet::Flow;
 use packet::PacketRead;
 use script::Chunk;
 use script::Input;
@@ -121,11 +122,13 @@ fn put_segment(out: &mut Output, used: usize, flow: Flow, segment: Segment) -> u
     requires { ⌜ used ≤ 65536 ⌝ }
     ensures { λ r. ⌜ r ≤ 65536 ⌝ }
 {
+    let from = flow.from;
+    let to = flow.to;
     let fields = [
-        flow.source as u64,
-        flow.destination as u64,
-        flow.sport as u64,
-        flow.dport as u64,
+        from.address.low,
+        to.address.low,
+        from.port as u64,
+        to.port as u64,
         segment.seq.0 as u64,
         segment.ack.0 as u64,
         segment.window.0 as u64,
@@ -140,7 +143,7 @@ fn read_packet(bytes: &[u8], out: &mut Output, used: usize) -> usize
     requires { ⌜ used ≤ 65536 ⌝ }
     ensures { λ r. ⌜ r ≤ 65536 ⌝ }
 {
-    let read = packet::read_packet(bytes);
+    let read = packet::read_packet(Version::V4, bytes);
     match read {
         PacketRead::Refused(cause) => script::put_decimal(out, used, cause.number() as u64),
         PacketRead::Tcp(flow, segment) => put_segment(out, used, flow, segment),

@@ -1,50 +1,40 @@
-use Rattle.entry.specs.Layout.{entryAt}
+use Rattle.entry.proofs.Parts.{entry-by-parts}
 use borrow.Author.Needs.{needs}
 use Rattle.entry.proofs.load.Statement.{statement}
 use Rattle.entry.proofs.load.Tie as tie
 
-mul-at : tie.Need-mul-at
-mul-at c = search needs
+place-at-requires : tie.Need-place-at-requires
+place-at-requires c κs = search needs
 
-add-at : tie.Need-add-at
-add-at c = search needs
+numbers-at-requires : tie.Need-numbers-at-requires
+numbers-at-requires c κs = search needs
 
-add-load-endpoint : tie.Need-add-load-endpoint
-add-load-endpoint c = search needs
+add-read-flow : tie.Need-add-read-flow
+add-read-flow c = search needs
 
-add-load-endpoint-2 : tie.Need-add-load-endpoint-2
-add-load-endpoint-2 c = search needs
+sub-read-flow : tie.Need-sub-read-flow
+sub-read-flow c = search needs
 
-load-endpoint-requires : tie.Need-load-endpoint-requires
-load-endpoint-requires c κs = search needs
-
-add-load-endpoint-3 : tie.Need-add-load-endpoint-3
-add-load-endpoint-3 c = search needs
-
-add-load-endpoint-4 : tie.Need-add-load-endpoint-4
-add-load-endpoint-4 c = search needs
-
-load-endpoint-requires-2 : tie.Need-load-endpoint-requires-2
-load-endpoint-requires-2 c κs = search needs
+read-flow-requires : tie.Need-read-flow-requires
+read-flow-requires c κs = search needs
 
 load-connection-requires : tie.Need-load-connection-requires
 load-connection-requires c κs = search needs
 
 returns : tie.Need-returns
-unfolding entryAt
-returns c = cc
+returns c =
+    let a = c .before .before .before .before .before .args in
+    entry-by-parts (a .version) (a .table .now) _ _ _ _ _ (c .before .before .before .place-at .ensures) (c .before .before .numbers-at .ensures)
+    (c .before .read-flow .ensures) (c .load-connection .ensures)
 
 pub load-spec : {M : Type 1} → statement M
 load-spec =
     tie.close
     (tie.spec
-    mul-at
-    add-at
-    add-load-endpoint
-    add-load-endpoint-2
-    load-endpoint-requires
-    add-load-endpoint-3
-    add-load-endpoint-4
-    load-endpoint-requires-2
+    place-at-requires
+    numbers-at-requires
+    add-read-flow
+    sub-read-flow
+    read-flow-requires
     load-connection-requires
     returns)

@@ -2,7 +2,8 @@ use Prim.Native.Nat.{ℕ}
 use mathlib.Core.Path.{sym, ap, _∙_}
 use Rattle.packet.specs.declared.PacketRead.{PacketRead}
 use Rattle.filter.specs.Call.{onPacket}
-use Rattle.filter.specs.Outcome.{Blocked}
+use Rattle.rows.specs.Rows.{Blocked}
+use Rattle.table.specs.Table.{viewOf}
 use Rattle.filter.specs.Decision.{decisionOf}
 use borrow.Author.Needs.{needs}
 use Rattle.filter.proofs.on_packet.Statement.{statement}
@@ -32,14 +33,14 @@ returns c =
     let a = k .before .before .before .args in
     c .blocked .ensures
     ∙ ap (λ (n : ℕ). decisionOf (Blocked n)) (c .before .number .ensures)
-    ∙ ap (λ (r : PacketRead). decisionOf (onPacket r (a .table .now) (a .clock) (a .side))) (sym (c .before .before .before .read .given .1) ∙ k .read-packet .ensures .0)
+    ∙ ap (λ (r : PacketRead). decisionOf (onPacket r (viewOf (a .version) (a .table .now) (a .places)) (a .clock) (a .side))) (sym (c .before .before .before .read .given .1) ∙ k .read-packet .ensures .0)
 
 returns-2 : tie.Need-returns-2
 returns-2 c =
     let k = c .before .before .before .before in
     let a = k .before .before .before .args in
     c .on-segment .ensures
-    ∙ ap (λ (r : PacketRead). decisionOf (onPacket r (a .table .now) (a .clock) (a .side))) (sym (c .before .before .read2 .given .1) ∙ k .read-packet .ensures .0)
+    ∙ ap (λ (r : PacketRead). decisionOf (onPacket r (viewOf (a .version) (a .table .now) (a .places)) (a .clock) (a .side))) (sym (c .before .before .read2 .given .1) ∙ k .read-packet .ensures .0)
 
 pub on-packet-spec : {M : Type 1} → statement M
 on-packet-spec =

@@ -1,9 +1,11 @@
 use mathlib.Core.Path.{sym, ap, _∙_}
 use Rattle.entry.specs.declared.Entry.{Entry}
-use Rattle.table.specs.Table.{firstFrom, vacantAt}
-use Rattle.filter.specs.Outcome.{Passed}
+use Rattle.rows.specs.Rows.{Passed}
+use Rattle.rows.specs.Connections.{connections}
+use Rattle.table.specs.Table.{viewOf}
+use Rattle.entry.specs.Viewed.{viewed}
 use Rattle.filter.specs.Decision.{decisionOf}
-use Rattle.filter.proofs.Rows.{unmatched-not-from-side-0, unmatched-not-syn, unmatched-syn}
+use Rattle.rows.proofs.Rows.{unmatched-not-from-side-0, unmatched-not-syn, unmatched-syn}
 use borrow.Author.Needs.{needs}
 use Rattle.filter.proofs.unmatched.Statement.{statement}
 use Rattle.filter.proofs.unmatched.Tie as tie
@@ -12,7 +14,7 @@ blocked-requires : tie.Need-blocked-requires
 blocked-requires c κs = search needs
 
 returns : tie.Need-returns
-returns c = c .blocked .ensures ∙ ap decisionOf (sym (unmatched-not-from-side-0 _ _ _ _ _ (c .before .if1 .taken)))
+returns c = c .blocked .ensures ∙ ap decisionOf (sym (unmatched-not-from-side-0 _ _ _ _ _ _ (c .before .if1 .taken)))
 
 vacant-requires : tie.Need-vacant-requires
 vacant-requires c κs = search needs
@@ -41,10 +43,10 @@ returns-2 c =
     let s = k .before .before in
     let z = s .before .before in
     let a = z .args in
-    let h = ap (firstFrom (vacantAt (a .table .now) (a .clock)) 0) (sym (z .pre .0)) ∙ sym (k .vacant .ensures) ∙ c .before .before .before .found .given .1 in
+    let h = sym (k .vacant .ensures) ∙ c .before .before .before .found .given .1 in
     c .passed .ensures
-    ∙ ap (λ (x : Entry). decisionOf (Passed (c .before .before .before .found .given .0 .0) (a .clock) x)) (c .before .opening .ensures)
-    ∙ ap decisionOf (sym (unmatched-syn (a .table .now) (a .clock) (a .side) (a .flow) (a .segment) (s .if1 .left) (k .before .match .keys1) _ h))
+    ∙ ap (λ (x : Entry). decisionOf (Passed (c .before .before .before .found .given .0 .0) (a .clock) (viewed x))) (c .before .opening .ensures)
+    ∙ ap decisionOf (sym (unmatched-syn connections (viewOf (a .version) (a .table .now) (a .places)) (a .clock) (a .side) (a .flow) (a .segment) (s .if1 .left) (k .before .match .keys1) _ h))
 
 returns-3 : tie.Need-returns-3
 returns-3 c =
@@ -52,12 +54,12 @@ returns-3 c =
     let s = k .before .before in
     let z = s .before .before in
     let a = z .args in
-    let h = ap (firstFrom (vacantAt (a .table .now) (a .clock)) 0) (sym (z .pre .0)) ∙ sym (k .vacant .ensures) ∙ c .before .enum-told .given .1 in
+    let h = sym (k .vacant .ensures) ∙ c .before .enum-told .given .1 in
     c .blocked2 .ensures
-    ∙ ap decisionOf (sym (unmatched-syn (a .table .now) (a .clock) (a .side) (a .flow) (a .segment) (s .if1 .left) (k .before .match .keys1) _ h))
+    ∙ ap decisionOf (sym (unmatched-syn connections (viewOf (a .version) (a .table .now) (a .places)) (a .clock) (a .side) (a .flow) (a .segment) (s .if1 .left) (k .before .match .keys1) _ h))
 
 returns-4 : tie.Need-returns-4
-returns-4 c = c .blocked3 .ensures ∙ ap decisionOf (sym (unmatched-not-syn _ _ _ _ _ (c .before .match .rest .1)))
+returns-4 c = c .blocked3 .ensures ∙ ap decisionOf (sym (unmatched-not-syn _ _ _ _ _ _ (c .before .match .rest .1)))
 
 pub unmatched-spec : {M : Type 1} → statement M
 unmatched-spec =

@@ -2,7 +2,7 @@ use Prim.Native.Nat.{_+_}
 use mathlib.Core.Path.{sym, _∙_}
 use native.Mathlib.Omega.{arith}
 use Rattle.choice.proofs.Choice.{if-<, if-<-not}
-use Rattle.packet.specs.Tails.{rows9to10}
+use Rattle.packet.specs.Read.{rows9to10}
 use Rattle.packet.specs.declared.PacketRead.the-variants.{Tcp}
 use Rattle.packet.proofs.Read.{refused-row10, past-row10}
 use borrow.Author.Needs.{needs}
@@ -60,8 +60,8 @@ enum-known-check c = search needs
 enum-told : tie.Need-enum-told
 enum-told c = search needs
 
-read-flow-requires : tie.Need-read-flow-requires
-read-flow-requires c κs = search needs
+flow-of-requires : tie.Need-flow-of-requires
+flow-of-requires c κs = search needs
 
 read-segment-requires : tie.Need-read-segment-requires
 read-segment-requires c κs = search needs
@@ -71,7 +71,7 @@ returns-4 c =
     let k = c .before .before .before in
     let m = k .before .before in
     let a = m .before .before .before .before .before .args in
-    sym (refused-row10 (a .s .now) (a .h) (a .t) (m .before .before .before .if1 .left) (m .before .if2 .left) (m .if3 .left) _
+    sym (refused-row10 (a .version) (a .s .now) (a .h) (a .t) (m .before .before .before .if1 .left) (m .before .if2 .left) (m .if3 .left) _
     (sym (k .check-flags .ensures) ∙ c .before .check .given .1))
 
 returns-5 : tie.Need-returns-5
@@ -79,8 +79,8 @@ returns-5 c =
     let k = c .before .before .before .before in
     let m = k .before .before in
     let a = m .before .before .before .before .before .args in
-    (λ i. Tcp (c .before .read-flow .ensures i) (c .read-segment .ensures i))
-    ∙ sym (past-row10 (a .s .now) (a .h) (a .t) (m .before .before .before .if1 .left) (m .before .if2 .left) (m .if3 .left)
+    (λ i. Tcp (c .before .flow-of .ensures i) (c .read-segment .ensures i))
+    ∙ sym (past-row10 (a .version) (a .s .now) (a .h) (a .t) (m .before .before .before .if1 .left) (m .before .if2 .left) (m .if3 .left)
     (sym (k .check-flags .ensures) ∙ c .before .before .enum-told .given .1))
 
 pub read-tcp-spec : {M : Type 1} → statement M
@@ -103,7 +103,7 @@ read-tcp-spec =
     check-flags-requires
     enum-known-check
     enum-told
-    read-flow-requires
+    flow-of-requires
     read-segment-requires
     returns-4
     returns-5)

@@ -1,5 +1,6 @@
 use mathlib.Core.Path.{ap, _∙_}
 use borrow.Author.Needs.{needs}
+use Rattle.address.specs.declared.Version.the-variants.{V4}
 use Rattle.filter.proofs.Fits.{reply-small}
 use Rattle.quaybonnet.specs.Packed.{packed}
 use Rattle.quaybonnet.proofs.qb_filter.Statement.{statement}
@@ -11,7 +12,7 @@ filter-requires c κs = search needs
 pack-requires : tie.Need-pack-requires
 pack-requires c κs =
     let a = c .before .before .before .before .before .before .args in
-    rw (c .before .before .filter .ensures .0) (reply-small (a .side) (a .clock) (a .table .now) (a .packet .now))
+    rw (c .before .before .filter .ensures .0) (reply-small V4 (a .side) (a .clock) (a .table .now) (a .packet .now))
 
 same-length : tie.Need-same-length
 same-length c = search needs

@@ -1,16 +1,26 @@
-use mathlib.Core.Path.{sym, _∙_}
-use borrow.Author.Tests.{not-true, not-false}
+use Rattle.address.specs.Flows.{sameFlow}
+use Rattle.address.specs.declared.Flow.{Flow}
+use Rattle.table.proofs.Match.{answerer-not-by-key, answerer-by-side}
 use Rattle.entry.specs.Layout.{entryAt, connectionAt}
-use Rattle.table.proofs.Match.{answerer-not-by-endpoints, answerer-by-side}
+use Rattle.address.specs.declared.Version.{Version}
+use borrow.Author.Tests.{eq-eqb, ne-eqb, not-true, not-false}
+use native.Mathlib.Omega.{arith}
+use mathlib.Core.Path.{_≡_, refl, sym, ap, subst⁻¹, _∙_}
 use borrow.Author.Needs.{needs}
 use Rattle.table.proofs.from_answerer_at.Statement.{statement}
 use Rattle.table.proofs.from_answerer_at.Tie as tie
 
-between-at-requires : tie.Need-between-at-requires
-between-at-requires c κs = search needs
+reversed-requires : tie.Need-reversed-requires
+reversed-requires c κs = search needs
+
+key-is-requires : tie.Need-key-is-requires
+key-is-requires c κs = search needs
 
 returns : tie.Need-returns
-returns c = sym (answerer-not-by-endpoints _ _ _ _ (sym (c .before .between-at .ensures) ∙ not-true _ (c .if1 .taken)))
+returns c =
+    let a = c .before .before .before .before .args in
+    let back = ap (λ (k : Flow). sameFlow k (entryAt (a .version) (a .table .now) (a .at) .key)) (c .before .before .reversed .ensures) in
+    sym (answerer-not-by-key _ _ _ (sym back ∙ sym (c .before .key-is .ensures) ∙ not-true _ (c .if1 .taken)))
 
 add-other-side : tie.Need-add-other-side
 add-other-side c = search needs
@@ -24,15 +34,17 @@ other-side-requires c κs = search needs
 returns-2 : tie.Need-returns-2
 unfolding entryAt connectionAt
 returns-2 c =
-    let e = c .before .before in
+    let a = c .before .before .before .before .before .before .args in
+    let back = ap (λ (k : Flow). sameFlow k (entryAt (a .version) (a .table .now) (a .at) .key)) (c .before .before .before .before .reversed .ensures) in
     rw (c .other-side .ensures)
-    (sym (answerer-by-side _ _ _ _ (sym (e .before .between-at .ensures) ∙ not-false _ (e .if1 .left))))
+    (sym (answerer-by-side _ _ _ (sym back ∙ sym (c .before .before .before .key-is .ensures) ∙ not-false _ (c .before .before .if1 .left))))
 
 pub from-answerer-at-spec : {M : Type 1} → statement M
 from-answerer-at-spec =
     tie.close
     (tie.spec
-    between-at-requires
+    reversed-requires
+    key-is-requires
     returns
     add-other-side
     shared-slice-read-other-side

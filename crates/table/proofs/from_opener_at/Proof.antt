@@ -1,16 +1,18 @@
-use mathlib.Core.Path.{sym, _∙_}
-use borrow.Author.Tests.{not-true, not-false}
+use Rattle.table.proofs.Match.{opener-not-by-key, opener-by-side}
 use Rattle.entry.specs.Layout.{entryAt, connectionAt}
-use Rattle.table.proofs.Match.{opener-not-by-endpoints, opener-by-side}
+use Rattle.address.specs.declared.Version.{Version}
+use borrow.Author.Tests.{eq-eqb, ne-eqb, not-true, not-false}
+use native.Mathlib.Omega.{arith}
+use mathlib.Core.Path.{_≡_, refl, sym, ap, subst⁻¹, _∙_}
 use borrow.Author.Needs.{needs}
 use Rattle.table.proofs.from_opener_at.Statement.{statement}
 use Rattle.table.proofs.from_opener_at.Tie as tie
 
-between-at-requires : tie.Need-between-at-requires
-between-at-requires c κs = search needs
+key-is-requires : tie.Need-key-is-requires
+key-is-requires c κs = search needs
 
 returns : tie.Need-returns
-returns c = sym (opener-not-by-endpoints _ _ _ _ (sym (c .before .between-at .ensures) ∙ not-true _ (c .if1 .taken)))
+returns c = sym (opener-not-by-key _ _ _ (sym ((c .before .key-is) .ensures) ∙ not-true _ ((c .if1) .taken)))
 
 add-result : tie.Need-add-result
 add-result c = search needs
@@ -20,9 +22,8 @@ shared-slice-read-result c = search needs
 
 returns-2 : tie.Need-returns-2
 unfolding entryAt connectionAt
-returns-2 c =
-    let e = c .before in
-    sym (opener-by-side _ _ _ _ (sym (e .before .between-at .ensures) ∙ not-false _ (e .if1 .left)))
+returns-2 c = sym (opener-by-side _ _ _ (sym ((c .before .before .key-is) .ensures) ∙ not-false _ ((c .before .if1) .left)))
 
 pub from-opener-at-spec : {M : Type 1} → statement M
-from-opener-at-spec = tie.close (tie.spec between-at-requires returns add-result shared-slice-read-result returns-2)
+from-opener-at-spec =
+    tie.close (tie.spec key-is-requires returns add-result shared-slice-read-result returns-2)

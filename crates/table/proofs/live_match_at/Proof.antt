@@ -1,5 +1,8 @@
-use mathlib.Core.Path.{sym, _∙_}
 use Rattle.table.proofs.Match.{not-live-by-expired, live-by-match}
+use Rattle.address.specs.declared.Version.{Version}
+use borrow.Author.Tests.{eq-eqb, ne-eqb, not-true, not-false}
+use native.Mathlib.Omega.{arith}
+use mathlib.Core.Path.{_≡_, refl, sym, ap, subst⁻¹, _∙_}
 use borrow.Author.Needs.{needs}
 use Rattle.table.proofs.live_match_at.Statement.{statement}
 use Rattle.table.proofs.live_match_at.Tie as tie
@@ -8,32 +11,19 @@ vacant-at-requires : tie.Need-vacant-at-requires
 vacant-at-requires c κs = search needs
 
 returns : tie.Need-returns
-returns c = sym (not-live-by-expired _ _ _ _ _ _ (sym (c .before .vacant-at .ensures) ∙ c .if1 .taken))
-
-mul-at : tie.Need-mul-at
-mul-at c = search needs
-
-add-at : tie.Need-add-at
-add-at c = search needs
+returns c = sym (not-live-by-expired _ _ _ _ (sym ((c .before .vacant-at) .ensures) ∙ (c .if1) .taken))
 
 from-opener-at-requires : tie.Need-from-opener-at-requires
 from-opener-at-requires c κs = search needs
 
 returns-2 : tie.Need-returns-2
-returns-2 c =
-    let l = c .before .before in
-    sym (live-by-match _ _ _ _ _ _ (sym (l .before .vacant-at .ensures) ∙ l .if1 .left)
-    ∙ rw (sym (c .before .from-opener-at .ensures) ∙ c .if2 .taken))
+returns-2 c = sym (live-by-match _ _ _ _ (sym ((c .before .before .before .vacant-at) .ensures) ∙ (c .before .before .if1) .left) ∙ rw (sym ((c .before .from-opener-at) .ensures) ∙ (c .if2) .taken))
 
 from-answerer-at-requires : tie.Need-from-answerer-at-requires
 from-answerer-at-requires c κs = search needs
 
 returns-3 : tie.Need-returns-3
-returns-3 c =
-    let l = c .before .before .before in
-    c .from-answerer-at .ensures
-    ∙ sym (live-by-match _ _ _ _ _ _ (sym (l .before .vacant-at .ensures) ∙ l .if1 .left)
-    ∙ rw (sym (c .before .before .from-opener-at .ensures) ∙ c .before .if2 .left))
+returns-3 c = (c .from-answerer-at) .ensures ∙ sym (live-by-match _ _ _ _ (sym ((c .before .before .before .before .vacant-at) .ensures) ∙ (c .before .before .before .if1) .left) ∙ rw (sym ((c .before .before .from-opener-at) .ensures) ∙ (c .before .if2) .left))
 
 pub live-match-at-spec : {M : Type 1} → statement M
 live-match-at-spec =
@@ -41,8 +31,6 @@ live-match-at-spec =
     (tie.spec
     vacant-at-requires
     returns
-    mul-at
-    add-at
     from-opener-at-requires
     returns-2
     from-answerer-at-requires

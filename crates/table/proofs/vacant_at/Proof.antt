@@ -1,27 +1,25 @@
-use Prim.Native.Nat.{ℕ}
-use mathlib.Core.Path.{ap}
-use Rattle.choice.specs.Choice.{_≤ᵇ_}
+use Rattle.rows.specs.Rows.{vacant}
 use Rattle.entry.specs.Layout.{entryAt, connectionAt}
-use Rattle.table.specs.Table.{vacantAt}
+use Rattle.octets.specs.BigEndian.{bigEndian}
+use Rattle.choice.specs.Choice.{_≤ᵇ_}
+use Prim.Native.Nat.{ℕ}
+use Rattle.address.specs.declared.Version.{Version}
+use borrow.Author.Tests.{eq-eqb, ne-eqb, not-true, not-false}
+use native.Mathlib.Omega.{arith}
+use mathlib.Core.Path.{_≡_, refl, sym, ap, subst⁻¹, _∙_}
 use borrow.Author.Needs.{needs}
 use Rattle.table.proofs.vacant_at.Statement.{statement}
 use Rattle.table.proofs.vacant_at.Tie as tie
 
-mul-at : tie.Need-mul-at
-mul-at c = search needs
-
-add-at : tie.Need-add-at
-add-at c = search needs
-
-add-read64 : tie.Need-add-read64
-add-read64 c = search needs
+numbers-at-requires : tie.Need-numbers-at-requires
+numbers-at-requires c κs = search needs
 
 read64-requires : tie.Need-read64-requires
 read64-requires c κs = search needs
 
 returns : tie.Need-returns
-unfolding vacantAt entryAt connectionAt
-returns c = ap (λ (d : ℕ). d ≤ᵇ c .before .before .args .clock) (c .read64 .ensures)
+unfolding vacant entryAt connectionAt
+returns c = let a = (c .before .before .before) .args in ap (λ (d : ℕ). d ≤ᵇ a .clock) ((c .read64) .ensures ∙ ap (bigEndian 8 (a .table .now)) ((c .before .numbers-at) .ensures))
 
 pub vacant-at-spec : {M : Type 1} → statement M
-vacant-at-spec = tie.close (tie.spec mul-at add-at add-read64 read64-requires returns)
+vacant-at-spec = tie.close (tie.spec numbers-at-requires read64-requires returns)

@@ -1,0 +1,17 @@
+use native.Mathlib.Omega.{arith}
+use mathlib.Core.Path.{refl, sym, ap, _∙_}
+use borrow.Author.Needs.{needs}
+use Rattle.address.proofs.read_endpoint.Statement.{statement}
+use Rattle.address.proofs.read_endpoint.Tie as tie
+
+read-address-requires : tie.Need-read-address-requires
+read-address-requires c κs = search needs
+
+read16-requires : tie.Need-read16-requires
+read16-requires c κs = search needs
+
+returns : tie.Need-returns
+returns c = let a = (c .before .read-address) .ensures in let p = (c .read16) .ensures in λ i. record { address = a i; port = p i }
+
+pub read-endpoint-spec : {M : Type 1} → statement M
+read-endpoint-spec = tie.close (tie.spec read-address-requires read16-requires returns)

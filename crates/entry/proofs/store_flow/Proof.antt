@@ -1,0 +1,64 @@
+use Rattle.entry.specs.Layout.{flowBytes}
+use Rattle.address.proofs.Laws.{length-addressOctets}
+use Rattle.octets.proofs.BigEndian.{length-octetsOf}
+use Rattle.octets.proofs.Overwrite.{overwrite-both}
+use Rattle.address.specs.declared.Version.{Version}
+use native.Mathlib.Omega.{arith}
+use mathlib.Core.Path.{refl, sym, ap, _∙_}
+use borrow.Author.Needs.{needs}
+use Rattle.entry.proofs.store_flow.Statement.{statement}
+use Rattle.entry.proofs.store_flow.Tie as tie
+
+address-size-requires : tie.Need-address-size-requires
+address-size-requires c κs = search needs
+
+add-next : tie.Need-add-next
+add-next c = search needs
+
+address-size-requires-2 : tie.Need-address-size-requires-2
+address-size-requires-2 c κs = search needs
+
+add-ports : tie.Need-add-ports
+add-ports c = search needs
+
+write-address-requires : tie.Need-write-address-requires
+write-address-requires c κs = search needs
+
+write-address-requires-2 : tie.Need-write-address-requires-2
+write-address-requires-2 c κs = search needs
+
+write16-requires : tie.Need-write16-requires
+write16-requires c κs = search needs
+
+add-write16 : tie.Need-add-write16
+add-write16 c = search needs
+
+write16-requires-2 : tie.Need-write16-requires-2
+write16-requires-2 c κs = search needs
+
+same-length : tie.Need-same-length
+same-length c = search needs
+
+returns : tie.Need-returns
+unfolding flowBytes
+returns c =
+    let a = c .before .before .before .before .before .before .before .before .before .before .before .before .before .before .before .before .before .before .before .before .before .before .before .args in
+    let ports = overwrite-both _ _ _ _ ((c .before .before .before .before .before .before .write16) .ensures) ((c .before .before .write162) .ensures) (length-octetsOf 2 _) (omega arith) (omega arith) in
+    let tail = overwrite-both _ _ _ _ ((c .before .before .before .before .before .before .before .before .before .before .write-address2) .ensures) ports (length-addressOctets (a .version) (a .flow .to .address)) (omega arith) (omega arith) in
+    overwrite-both _ _ _ _ ((c .before .before .before .before .before .before .before .before .before .before .before .before .before .before .write-address) .ensures) tail (length-addressOctets (a .version) (a .flow .from .address)) (omega arith) (omega arith)
+
+pub store-flow-spec : {M : Type 1} → statement M
+store-flow-spec =
+    tie.close
+    (tie.spec
+    address-size-requires
+    add-next
+    address-size-requires-2
+    add-ports
+    write-address-requires
+    write-address-requires-2
+    write16-requires
+    add-write16
+    write16-requires-2
+    same-length
+    returns)

@@ -1,0 +1,22 @@
+-- A sound view of a table.
+use Prim.Native.Nat.{ℕ, _<_}
+use mathlib.Core.Path.{_≡_}
+use mathlib.Core.Logic.{_⊎_}
+use mathlib.Core.Bool.{true}
+use Rattle.connection.specs.Sound.{soundConnection}
+use Rattle.connection.specs.declared.Connection.{Connection}
+use Rattle.connection.specs.declared.End.{End}
+use Rattle.history.specs.Records.{TwoEnds}
+use Rattle.rows.specs.Rows.{View, freeEntry}
+use Rattle.rows.specs.Connections.{connections}
+
+-- every entry is free or sound by the header clock; what else document 01 asks, a clock under 2^48 and zero bytes, concerns the bytes
+abbrev pub SoundView : View connections → Type 0
+SoundView v = (p : ℕ) → p < v .places → (v .entry p ≡ freeEntry connections) ⊎ (soundConnection (v .clock) (v .entry p .connection) ≡ true)
+
+-- its numbers are as their types have them: each connection has two ends, with 32-bit numbers
+abbrev pub Typed : Connection → Type 0
+Typed c = (x : ℕ → End) × TwoEnds c x
+
+abbrev pub TypedView : View connections → Type 0
+TypedView v = (p : ℕ) → p < v .places → Typed (v .entry p .connection)

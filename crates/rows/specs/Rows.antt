@@ -1,0 +1,164 @@
+-- Rows 11 to 15 and 0 of document 01 ("What the gate says"), said once: over a view of a table, whatever its bytes, whatever the size of
+-- an address, and whatever an entry keeps of its connection. The call on bytes and the theorems both cite them.
+use Prim.Native.Nat.{ℕ, _-_, max}
+use mathlib.Core.Bool.{Bool, _&&_, _||_}
+use Rattle.choice.specs.Choice.{if_then_else_, _<ᵇ_, _≤ᵇ_, _=ᵇ_}
+use Rattle.segment.specs.Flags.{SYN}
+use Rattle.segment.specs.declared.Segment.{Segment}
+use Rattle.connection.specs.Decision.{verdictNumber}
+use Rattle.connection.specs.declared.Verdict.{Verdict}
+use Rattle.connection.specs.declared.Verdict.the-variants.{Pass, NotAllowed, SequenceMissed, AckMissed}
+use Rattle.address.specs.declared.Flow.{Flow}
+use Rattle.address.specs.Flows.{sameFlow, reversed, noFlow}
+use Rattle.rows.specs.Places.{firstFrom}
+use Rattle.rows.specs.declared.Found.{Found}
+use Rattle.rows.specs.declared.Found.the-variants.{At, Nothing}
+
+-- What an entry keeps of its connection beside addresses and ports
+pub record Bodies : Type 1 where
+  pub Body : Type 0
+  -- the opener's side
+  pub side : Body → ℕ
+  pub deadline : Body → ℕ
+  -- rows 13 to 15 and 0, for a segment of sender 0, the opener, or 1, the answerer
+  pub verdict : Body → ℕ → Segment → Verdict
+  -- what a pass of such a segment leaves, at a clock used
+  pub passed : Body → ℕ → Segment → ℕ → Body
+  -- what an opening from a side leaves, at a clock used
+  pub opened : ℕ → Segment → ℕ → Body
+  -- of a free entry; and whether a pass has freed it
+  pub free : Body
+  pub freed : Body → Bool
+
+-- a well-formed call: the packet's side, the clock given, addresses and ports as the packet has them, and its segment
+pub record Ask : Type 0 where
+  pub side : ℕ
+  pub clock : ℕ
+  pub key : Flow
+  pub segment : Segment
+
+-- an opening: SYN without ACK from side 0. Flags hold FIN, SYN, RST and ACK alone, and row 10 has refused SYN with FIN or RST
+abbrev pub opens : ℕ → Segment → Bool
+opens side g = (side =ᵇ 0) && (g .flags =ᵇ SYN)
+
+module _ (B : Bodies) where
+  -- addresses and ports stand the opener's way round
+  pub record Entry : Type 0 where
+    pub key : Flow
+    pub connection : B .Body
+
+  -- a table, or the part of one that a call is on: the header's clock, the number of places, and the entry at each
+  pub record View : Type 0 where
+    pub clock : ℕ
+    pub places : ℕ
+    pub entry : ℕ → Entry
+
+  -- what a call comes to: its answer, document 01's number; or a pass at a place, by the clock used, with the entry that it leaves there
+  pub data Outcome : Type 0 where
+    Blocked : ℕ → Outcome
+    Passed : ℕ → ℕ → Entry → Outcome
+
+  abbrev pub freeEntry : Entry
+  freeEntry = record { key = noFlow; connection = B .free }
+
+  -- The search
+
+  -- a segment on a side, with addresses and ports k, matches as the opener's if all are the opener's way round
+  unfoldable pub fromOpener : Entry → ℕ → Flow → Bool
+  fromOpener e side k = (side =ᵇ B .side (e .connection)) && sameFlow k (e .key)
+
+  -- as the answerer's if the side is the other one and they are reversed
+  unfoldable pub fromAnswerer : Entry → ℕ → Flow → Bool
+  fromAnswerer e side k = (side =ᵇ 1 - B .side (e .connection)) && sameFlow (reversed k) (e .key)
+
+  -- live: deadline above the clock used; and it matches
+  unfoldable pub liveMatch : ℕ → ℕ → Flow → Entry → Bool
+  liveMatch now side k e = (now <ᵇ B .deadline (e .connection)) && (fromOpener e side k || fromAnswerer e side k)
+
+  -- free or expired: a free entry's deadline is 0
+  unfoldable pub vacant : ℕ → Entry → Bool
+  vacant now e = B .deadline (e .connection) ≤ᵇ now
+
+  -- the first live match from place 0 up
+  abbrev pub search : View → ℕ → ℕ → Flow → Found
+  search v now side k = firstFrom (λ p. liveMatch now side k (v .entry p)) 0 (v .places)
+
+  -- the lowest place that is free or expired
+  abbrev pub lowestVacant : View → ℕ → Found
+  lowestVacant v now = firstFrom (λ p. vacant now (v .entry p)) 0 (v .places)
+
+  -- Rows 13 to 15 and 0: a live connection matches
+
+  -- the sender of a match, by the side that it is on: 0 the opener, 1 the answerer
+  unfoldable pub senderOf : Entry → ℕ → ℕ
+  senderOf e side = if side =ᵇ B .side (e .connection) then 0 else 1
+
+  -- an entry by its connection after a pass: free, if the pass has freed that
+  unfoldable pub entryWith : Entry → B .Body → Entry
+  entryWith e after = if B .freed after then freeEntry else record { key = e .key; connection = after }
+
+  -- what a pass leaves of an entry
+  abbrev pub entryAfter : Entry → ℕ → Segment → ℕ → Entry
+  entryAfter e i g now = entryWith e (B .passed (e .connection) i g now)
+
+  -- 13 to 15, or the pass
+  abbrev pub byVerdict : Verdict → Outcome → Outcome
+  byVerdict Pass pass = pass
+  byVerdict NotAllowed pass = Blocked (verdictNumber NotAllowed)
+  byVerdict SequenceMissed pass = Blocked (verdictNumber SequenceMissed)
+  byVerdict AckMissed pass = Blocked (verdictNumber AckMissed)
+
+  unfoldable pub onEntry : Entry → ℕ → ℕ → ℕ → Segment → Outcome
+  onEntry e p now side g =
+      byVerdict (B .verdict (e .connection) (senderOf e side) g) (Passed p now (entryAfter e (senderOf e side) g now))
+
+  -- Rows 11, 12 and 0: none does
+
+  -- the entry that an opening makes
+  unfoldable pub openingEntry : ℕ → ℕ → Flow → Segment → Entry
+  openingEntry now side k g = record { key = k; connection = B .opened side g now }
+
+  -- 12, or the opening
+  abbrev pub onVacant : Found → ℕ → ℕ → Flow → Segment → Outcome
+  onVacant Nothing now side k g = Blocked 12
+  onVacant (At p) now side k g = Passed p now (openingEntry now side k g)
+
+  -- 11, unless it is an opening
+  unfoldable pub unmatched : View → ℕ → ℕ → Flow → Segment → Outcome
+  unmatched v now side k g = if opens side g then onVacant (lowestVacant v now) now side k g else Blocked 11
+
+  -- Rows 11 to 15 and 0, by the clock used
+
+  abbrev pub onFound : Found → View → ℕ → ℕ → Flow → Segment → Outcome
+  onFound (At p) v now side k g = onEntry (v .entry p) p now side g
+  onFound Nothing v now side k g = unmatched v now side k g
+
+  unfoldable pub onSegment : View → ℕ → ℕ → Flow → Segment → Outcome
+  onSegment v now side k g = onFound (search v now side k) v now side k g
+
+  -- clock used: the larger of the one given and the header's
+  abbrev pub clockUsed : View → Ask → ℕ
+  clockUsed v a = max (a .clock) (v .clock)
+
+  abbrev pub filter : View → Ask → Outcome
+  filter v a = onSegment v (clockUsed v a) (a .side) (a .key) (a .segment)
+
+  -- What an outcome gives and leaves
+
+  abbrev pub answerOf : Outcome → ℕ
+  answerOf (Blocked n) = n
+  answerOf (Passed p now e) = 0
+
+  -- a pass changes only the header clock and that entry; every other answer changes nothing
+  abbrev pub after : View → Outcome → View
+  after v (Blocked n) = v
+  after v (Passed p now e) = record { clock = now; places = v .places; entry = λ q. if q =ᵇ p then e else v .entry q }
+
+-- the place of every answer but a pass
+abbrev pub nowhere : ℕ
+nowhere = 65535
+
+-- a view's places have these numbers in the table
+abbrev pub placeBy : {B : Bodies} → (ℕ → ℕ) → Outcome B → ℕ
+placeBy number (Blocked n) = nowhere
+placeBy number (Passed p now e) = number p

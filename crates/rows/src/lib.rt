@@ -1,0 +1,5 @@
+// What a search over places of the table gives.
+pub enum Found {
+    At(usize),
+    Nothing,
+}
