@@ -12,7 +12,7 @@ use Rattle.octets.proofs.Agree.{Agree, part-agree}
 use Rattle.octets.proofs.BigEndian.{length-octetsOf, bigEndian-agree, bigEndian<256^n, bigEndian-octetsOf, octetsOf-bigEndian, octetsOf-add}
 use Rattle.octets.proofs.Octets.{Bytes, bytes-++, bytes-octetsOf}
 use Rattle.octets.proofs.Overwrite.{part-append}
-use Rattle.address.specs.Address.{addressSize, addressAt, addressOctets, Fits, flowAt, FitsFlow}
+use Rattle.address.specs.Address.{addressSize, addressAt, addressOctets, IsAddress, flowAt, IsFlow}
 use Rattle.address.specs.declared.Version.{Version}
 use Rattle.address.specs.declared.Version.the-variants.{V4, V6}
 use Rattle.address.specs.declared.Address.{Address}
@@ -41,7 +41,7 @@ unfolding bigEndian number octetsOf digits
 second-half h l = refl
 
 -- what is written is read
-pub addressAt-octets : (v : Version) (a : Address) → Fits v a → addressAt v (addressOctets v a) 0 ≡ a
+pub addressAt-octets : (v : Version) (a : Address) → IsAddress v a → addressAt v (addressOctets v a) 0 ≡ a
 addressAt-octets V4 a fits =
     let high : 0 ≡ a .high = omega (arith, fits .0) in
     let low = bigEndian-octetsOf 4 (a .low) (fits .1) in
@@ -59,11 +59,11 @@ octets-addressAt V4 t at fits octets = octetsOf-bigEndian 4 t at fits octets
 octets-addressAt V6 t at fits octets =
     part-append t 8 8 at (at + 8) _ _ refl (octetsOf-bigEndian 8 t at (omega arith) octets) (octetsOf-bigEndian 8 t (at + 8) (omega arith) octets)
 
-pub fits-addressAt : (v : Version) (t : List ℕ) (at : ℕ) → Octets t → Fits v (addressAt v t at)
+pub fits-addressAt : (v : Version) (t : List ℕ) (at : ℕ) → Octets t → IsAddress v (addressAt v t at)
 fits-addressAt V4 t at octets = (refl, bigEndian<256^n 4 t at octets)
 fits-addressAt V6 t at octets = (bigEndian<256^n 8 t at octets, bigEndian<256^n 8 t (at + 8) octets)
 
-pub fits-flowAt : (v : Version) (t : List ℕ) (addresses ports : ℕ) → Octets t → FitsFlow v (flowAt v t addresses ports)
+pub fits-flowAt : (v : Version) (t : List ℕ) (addresses ports : ℕ) → Octets t → IsFlow v (flowAt v t addresses ports)
 fits-flowAt v t addresses ports octets = record {
   from-address = fits-addressAt v t addresses octets;
   to-address = fits-addressAt v t (addresses + addressSize v) octets;

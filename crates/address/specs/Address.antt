@@ -32,12 +32,12 @@ abbrev pub flowAt : Version → List ℕ → ℕ → ℕ → Flow
 flowAt v t addresses ports = record { from = endpointAt v t addresses ports; to = endpointAt v t (addresses + addressSize v) (ports + 2) }
 
 -- what an address of a version may be
-abbrev pub Fits : Version → Address → Type 0
-Fits V4 a = (a .high ≡ 0) × (a .low < 2 ^ 32)
-Fits V6 a = (a .high < 2 ^ 64) × (a .low < 2 ^ 64)
+abbrev pub IsAddress : Version → Address → Type 0
+IsAddress V4 a = (a .high ≡ 0) × (a .low < 2 ^ 32)
+IsAddress V6 a = (a .high < 2 ^ 64) × (a .low < 2 ^ 64)
 
-pub record FitsFlow (v : Version) (k : Flow) : Type 0 where
-  pub from-address : Fits v (k .from .address)
-  pub to-address : Fits v (k .to .address)
+pub record IsFlow (v : Version) (k : Flow) : Type 0 where
+  pub from-address : IsAddress v (k .from .address)
+  pub to-address : IsAddress v (k .to .address)
   pub from-port : k .from .port < 2 ^ 16
   pub to-port : k .to .port < 2 ^ 16

@@ -33,5 +33,5 @@ abbrev pub endpoint : Address → ℕ → Endpoint
 endpoint address port = record { address = address; port = port }
 
 -- a.b.c.d
-abbrev pub address : ℕ → ℕ → ℕ → ℕ → Address
-address a b c d = record { high = 0; low = ((a * 256 + b) * 256 + c) * 256 + d }
+abbrev pub dotted : ℕ → ℕ → ℕ → ℕ → Address
+dotted a b c d = record { high = 0; low = ((a * 256 + b) * 256 + c) * 256 + d }

@@ -8,7 +8,7 @@ use native.Mathlib.Omega.{arith}
 use Rattle.connection.specs.Sound.{soundConnection}
 use Rattle.rows.specs.Rows.{Ask, Entry, Outcome, Blocked, Passed, clockUsed, filter, after}
 use Rattle.rows.specs.Connections.{connections}
-use Rattle.address.specs.Address.{FitsFlow}
+use Rattle.address.specs.Address.{IsFlow}
 use Rattle.address.specs.declared.Version.{Version}
 use Rattle.entry.specs.Typed.{Typed}
 use Rattle.entry.specs.Viewed.{stored}
@@ -49,7 +49,7 @@ module _ (v : Version) (t : List ℕ) (q : BytesCall) (a : Ask) (s : SoundBytes 
 
     entry-typed : Typed v (stored e)
     entry-typed =
-        let fits = left .key (FitsFlow v) (typed-free v .key) (asks-brought v q a asked .key) (typed-entryAt v t _ (s .octets) .key) in
+        let fits = left .key (IsFlow v) (typed-free v .key) (asks-brought v q a asked .key) (typed-entryAt v t _ (s .octets) .key) in
         ⊎-elim (λ free. rw free (typed-free v)) (λ sound. typed-entry v now (stored e) sound now-small (left .sound .typed) fits) entry-sound
 
   left-view : (o : Outcome connections) → LeftBy (tableOf v t) a o → tableOf v (tableAfter v t o) ≡ after connections (tableOf v t) o

@@ -7,7 +7,7 @@ use native.Mathlib.Omega.{arith}
 use borrow.Author.Tests.{leb-true, leb-false, not-false}
 use Rattle.choice.proofs.Choice.{if-false, if-ap, if-else, if-cases}
 use Rattle.octets.specs.Octets.{Octets}
-use Rattle.address.specs.Address.{FitsFlow}
+use Rattle.address.specs.Address.{IsFlow}
 use Rattle.address.specs.declared.Version.{Version}
 use Rattle.address.specs.declared.Flow.{Flow}
 use Rattle.address.proofs.Laws.{fits-flowAt}
@@ -52,7 +52,7 @@ outcome-read v q t s =
 pub record Brought (v : Version) (a : Ask) : Type 0 where
   pub side : a .side ≤ 1
   pub clock : a .clock < 2 ^ 48
-  pub key : FitsFlow v (a .key)
+  pub key : IsFlow v (a .key)
   pub segment : Readable (a .segment)
 
 -- no call concerns another part of the table: the whole is viewed
@@ -68,7 +68,7 @@ reading-holds v q =
     if-cases (Holds v) _ _ _ (λ _. omega arith) (λ clock-fine.
     by-packet (leb-true _ _ (not-false _ side-fine)) (leb-false _ _ clock-fine) (readPacket v (q .packet)) refl))
   where
-    key-fits : (k : Flow) (g : Segment) → readPacket v (q .packet) ≡ Tcp k g → FitsFlow v k
+    key-fits : (k : Flow) (g : Segment) → readPacket v (q .packet) ≡ Tcp k g → IsFlow v k
     key-fits k g read = let s = segment-of v (q .packet) k g read in rw (s .flow) (fits-flowAt v (q .packet) (sourceAt v) (s .h) (q .octets))
 
     by-packet :

@@ -3,7 +3,7 @@ use Prim.Native.Nat.{ℕ, _^_, _<_}
 use mathlib.Core.Path.{_≡_}
 use mathlib.Core.Bool.{true}
 use native.Mathlib.Omega.{arith}
-use Rattle.address.specs.Address.{FitsFlow}
+use Rattle.address.specs.Address.{IsFlow}
 use Rattle.address.specs.declared.Version.{Version}
 use Rattle.connection.specs.Sound.{soundConnection, soundEnd}
 use Rattle.connection.specs.declared.End.{End}
@@ -19,7 +19,7 @@ typed-end x fits sound = record { end = fits .end; edge = fits .edge; win = omeg
 -- a sound connection between two endpoints makes an entry within its types
 pub typed-entry :
     (v : Version) (now : ℕ) (e : Entry) → soundConnection now (e .connection) ≡ true → now < 2 ^ 48 → honest.Typed (e .connection) →
-    FitsFlow v (e .key) →
+    IsFlow v (e .key) →
     Typed v e
 typed-entry v now e sound small (x, ends) fits =
     let f = sound-facts now (e .connection) sound in

@@ -2,7 +2,7 @@
 use Prim.Native.Nat.{_^_, _<_}
 use mathlib.Core.Path.{_≡_}
 use lib.ListN.{length}
-use Rattle.address.specs.Address.{FitsFlow}
+use Rattle.address.specs.Address.{IsFlow}
 use Rattle.address.specs.declared.Version.{Version}
 use Rattle.connection.specs.Ends.{sender}
 use Rattle.connection.specs.declared.End.{End}
@@ -17,7 +17,7 @@ pub record Typed (v : Version) (e : Entry) : Type 0 where
   pub stage : e .connection .stage < 2 ^ 8
   pub side : e .connection .side < 2 ^ 8
   pub fins : e .connection .fins < 2 ^ 8
-  pub key : FitsFlow v (e .key)
+  pub key : IsFlow v (e .key)
   pub deadline : e .connection .deadline < 2 ^ 64
   pub two-ends : length (e .connection .ends) ≡ 2
   pub opener : TypedEnd (sender (e .connection .ends) 0)

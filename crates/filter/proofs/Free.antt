@@ -5,7 +5,7 @@ use mathlib.Core.List.{List, []}
 use native.Mathlib.Omega.{arith}
 use Rattle.octets.specs.BigEndian.{bigEndian, octetsOf}
 use Rattle.octets.specs.Digits.{tabulate, number, digits}
-use Rattle.address.specs.Address.{Fits, FitsFlow}
+use Rattle.address.specs.Address.{IsAddress, IsFlow}
 use Rattle.address.specs.Flows.{nobody, noFlow}
 use Rattle.address.specs.declared.Version.{Version}
 use Rattle.address.specs.declared.Version.the-variants.{V4, V6}
@@ -33,11 +33,11 @@ unfolding entryBytes marksBytes flowBytes numbersBytes endBytes octetsOf digits 
 free-zeros V4 = zerosAt-true (entryBytes V4 freeEntry) 0 64 refl
 free-zeros V6 = zerosAt-true (entryBytes V6 freeEntry) 0 96 refl
 
-free-fits : (v : Version) → Fits v (nobody .address)
+free-fits : (v : Version) → IsAddress v (nobody .address)
 free-fits V4 = (refl, omega arith)
 free-fits V6 = (omega arith, omega arith)
 
-free-flow : (v : Version) → FitsFlow v noFlow
+free-flow : (v : Version) → IsFlow v noFlow
 free-flow v = record { from-address = free-fits v; to-address = free-fits v; from-port = omega arith; to-port = omega arith }
 
 pub typed-free : (v : Version) → Typed v freeEntry

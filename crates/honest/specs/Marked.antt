@@ -11,7 +11,7 @@ use Rattle.rows.specs.Rows as rows
 use Rattle.rows.specs.Rows.{Entry, View, Ask, Passed, filter, answerOf, placeBy, nowhere}
 use Rattle.rows.specs.Connections.{connections}
 use Rattle.honest.specs.Demand2.{fresh}
-use Rattle.address.specs.Flows.{address, endpoint, between, reversed}
+use Rattle.address.specs.Flows.{dotted, endpoint, between, reversed}
 use Rattle.address.specs.declared.Flow.{Flow}
 
 -- Calls
@@ -22,7 +22,7 @@ segment flags s n a w = record { seq = seqNum s; ack = seqNum a; window = count 
 
 -- from 10.0.0.1 port 1024, on side 0, to 10.0.0.2 port 80
 abbrev pub outward : Flow
-outward = between (endpoint (address 10 0 0 1) 1024) (endpoint (address 10 0 0 2) 80)
+outward = between (endpoint (dotted 10 0 0 1) 1024) (endpoint (dotted 10 0 0 2) 80)
 
 abbrev pub byOpener : ℕ → Segment → Ask
 byOpener clock g = record { side = 0; clock = clock; key = outward; segment = g }

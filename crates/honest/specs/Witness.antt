@@ -15,7 +15,7 @@ use Rattle.serial.proofs.Ring.{wrap-small}
 use Rattle.segment.specs.Flags.{syn, SYN, SYN+ACK, ACK, FIN+ACK}
 use Rattle.history.specs.History.{LineSegment, onWire, Placeable}
 use Rattle.honest.specs.Rules.{opening, arrival, other, Event, send, call, delivery, Pair}
-use Rattle.address.specs.Flows.{address, endpoint, between, reversed}
+use Rattle.address.specs.Flows.{dotted, endpoint, between, reversed}
 use Rattle.address.specs.declared.Flow.{Flow}
 use Rattle.honest.specs.Instance.{ViewCall}
 use Rattle.honest.specs.Marked.{outward}
@@ -160,7 +160,7 @@ delivers of k = delivery k (of k .line)
 
 -- another connection's segment, on side 0
 abbrev pub strays : (clock host port : ℕ) → Piece → Seen
-strays clock host port p = call (calls 0 (omega arith) clock (between (endpoint (address 10 0 0 host) port) (endpoint (address 10 0 0 2) 80)) p) other
+strays clock host port p = call (calls 0 (omega arith) clock (between (endpoint (dotted 10 0 0 host) port) (endpoint (dotted 10 0 0 2) 80)) p) other
 
 -- a segment in the pair's name that no end has sent
 abbrev pub forges : (clock : ℕ) → Piece → Seen
