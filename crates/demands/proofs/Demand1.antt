@@ -3,16 +3,17 @@ use Prim.Native.Nat.{ℕ, _<_}
 use mathlib.Core.Path.{refl}
 use mathlib.Core.List.{List}
 use native.Mathlib.Omega.{arith}
+use lib.ListN.{length}
+use Rattle.address.specs.declared.Version.{Version}
+use Rattle.packet.specs.declared.PacketRead.{PacketRead}
 use Rattle.rows.specs.Rows.{Entry, Blocked, Passed}
 use Rattle.rows.specs.Connections.{connections}
 use Rattle.entry.specs.Viewed.{stored}
 use Rattle.filter.specs.Call.{Outcome, placesIn, outcomeOf}
-use lib.ListN.{length}
 use Rattle.filter.proofs.Rows.{inside-places}
 use Rattle.filter.proofs.Fits.{Within, outcome-within}
 use Rattle.demands.specs.Demands.{Demand1For, Demand1OnBytes}
 use Rattle.demands.proofs.Frame.{length-after, byte-elsewhere}
-use Rattle.address.specs.declared.Version.{Version}
 
 module _ (v : Version) where
   place-inside : (t : List ℕ) (p now : ℕ) (e : Entry connections) → Within v t (Passed p now e) → p < placesIn v t
@@ -36,5 +37,6 @@ module _ (v : Version) where
     blocked-keeps = λ not-0. absurd (not-0 refl);
   }
 
-  pub demand1-on-bytes : Demand1OnBytes v
-  demand1-on-bytes side clock t packet = given t (outcomeOf v side clock t packet) (outcome-within v side clock t packet)
+  pub demand1-on-bytes : (read : List ℕ → PacketRead) → Demand1OnBytes v read
+  demand1-on-bytes read side clock t packet =
+      given t (outcomeOf v side clock t (read packet)) (outcome-within v side clock t (read packet))

@@ -2,27 +2,27 @@
 use Prim.Native.Nat.{ℕ}
 use mathlib.Core.Path.{_≡_, refl}
 use mathlib.Core.List.{List, [], _∷_}
-use Rattle.packet.specs.Read.{carried4, rows9to10}
-use Rattle.address.specs.declared.Version.the-variants.{V4}
-use Rattle.packet.specs.Sum.{onesPlus, onesSum}
+use Rattle.choice.specs.Choice.{if_then_else_}
+use Rattle.serial.specs.Serial.{further}
+use Rattle.serial.specs.Ring.{wrap, ringPlus, ringMinus, nearest}
 use Rattle.octets.specs.Digits.{tabulate, number, digits}
 use Rattle.octets.specs.Overwrite.{overwrite}
 use Rattle.octets.specs.BigEndian.{bigEndian, octetsOf}
-use Rattle.entry.specs.Layout.{endBytes, marksBytes, flowBytes, numbersBytes, entryBytes, connectionAt, entryAt, placeAt}
-use Rattle.rows.specs.Places.{firstFrom}
-use Rattle.rows.specs.Rows.{fromOpener, fromAnswerer, liveMatch, vacant, senderOf, entryWith, onEntry, openingEntry, unmatched, onSegment}
 use Rattle.address.specs.Flows.{sameFlow}
-use Rattle.table.specs.Table.{zerosAt, allFrom, headerClock, soundHeader, freeAt, soundAt, soundTable}
-use Rattle.filter.specs.Length.{legalLength, placesFor}
-use Rattle.filter.specs.Call.{outcomeOf, replyOf, tableAfter}
+use Rattle.address.specs.declared.Version.the-variants.{V4}
+use Rattle.packet.specs.Read.{ipv4Header, rows9to10}
+use Rattle.packet.specs.Sum.{onesPlus, onesSum}
 use Rattle.connection.specs.Decision.{sameSyn, reply, verdictUnanswered, verdictByRanges, verdictOn, opened, repeated, answered, carried, passed}
 use Rattle.connection.specs.Ends.{sent, granted, written}
 use Rattle.connection.specs.Sound.{soundFins, soundEnd, soundUnanswered, soundConnection}
 use Rattle.connection.specs.Stages.{lifeOf, withFin, finsAfter, openStage, stageAfter}
 use Rattle.connection.specs.Ranges.{sequenceMet, ackMet}
-use Rattle.serial.specs.Serial.{further}
-use Rattle.serial.specs.Ring.{wrap, ringPlus, ringMinus, nearest}
-use Rattle.choice.specs.Choice.{if_then_else_}
+use Rattle.rows.specs.Places.{firstFrom}
+use Rattle.rows.specs.Rows.{fromOpener, fromAnswerer, liveMatch, vacant, senderOf, entryWith, onEntry, openingEntry, unmatched, onSegment}
+use Rattle.entry.specs.Layout.{endBytes, marksBytes, flowBytes, numbersBytes, entryBytes, connectionAt, entryAt, placeAt}
+use Rattle.table.specs.Table.{zerosAt, allFrom, headerClock, soundHeader, freeAt, soundAt, soundTable}
+use Rattle.filter.specs.Length.{legalLength, placesFor}
+use Rattle.filter.specs.Call.{outcomeOf, ipv4Outcome, replyOf, tableAfter}
 use Rattle.honest.specs.Marked as marked
 use Rattle.demands.specs.Demands.{freshBytes}
 use Rattle.demands.specs.Packets.{fieldOctets, octetsIn, checksum, payloadOf, ipHeader, tcpHeader, pseudoHeader, packetOf}
@@ -37,14 +37,17 @@ abbrev packet3 : List ℕ
 packet3 = 69 ∷ 0 ∷ 0 ∷ 40 ∷ 0 ∷ 0 ∷ 0 ∷ 0 ∷ 64 ∷ 6 ∷ 102 ∷ 206 ∷ 10 ∷ 0 ∷ 0 ∷ 1 ∷ 10 ∷ 0 ∷ 0 ∷ 2 ∷ 4 ∷ 0 ∷ 0 ∷ 80 ∷ 0 ∷ 0 ∷ 0 ∷ 101 ∷ 0 ∷ 0 ∷ 1 ∷ 246 ∷ 80 ∷ 16 ∷ 3 ∷ 232 ∷ 145 ∷ 63 ∷ 0 ∷ 0 ∷ []
 
 abbrev after1 : List ℕ
-after1 = tableAfter V4 (freshBytes V4 2) (outcomeOf V4 0 0 (freshBytes V4 2) packet1)
+after1 = tableAfter V4 (freshBytes V4 2) (ipv4Outcome 0 0 (freshBytes V4 2) packet1)
 
 abbrev after2 : List ℕ
-after2 = tableAfter V4 after1 (outcomeOf V4 1 100 after1 packet2)
+after2 = tableAfter V4 after1 (ipv4Outcome 1 100 after1 packet2)
 
 -- the SYN opens place 0, the SYN+ACK passes there, and the ACK of what was never sent is blocked
-pub example : (replyOf (outcomeOf V4 0 0 (freshBytes V4 2) packet1) ≡ record { answer = 0; place = 0 }) × (replyOf (outcomeOf V4 1 100 after1 packet2) ≡ record { answer = 0; place = 0 }) × (replyOf (outcomeOf V4 0 200 after2 packet3) ≡ record { answer = 15; place = 65535 })
-unfolding carried4 rows9to10 onesPlus onesSum tabulate number digits overwrite bigEndian octetsOf endBytes marksBytes flowBytes numbersBytes entryBytes connectionAt entryAt placeAt zerosAt allFrom headerClock soundHeader freeAt soundAt soundTable firstFrom fromOpener fromAnswerer liveMatch vacant senderOf entryWith onEntry openingEntry unmatched onSegment sameFlow legalLength placesFor outcomeOf sameSyn reply verdictUnanswered verdictByRanges verdictOn opened repeated answered carried passed sent granted written soundFins soundEnd soundUnanswered soundConnection lifeOf withFin finsAfter openStage stageAfter sequenceMet ackMet further wrap ringPlus ringMinus nearest if_then_else_
+pub example :
+    (replyOf (ipv4Outcome 0 0 (freshBytes V4 2) packet1) ≡ record { answer = 0; place = 0 })
+    × (replyOf (ipv4Outcome 1 100 after1 packet2) ≡ record { answer = 0; place = 0 })
+    × (replyOf (ipv4Outcome 0 200 after2 packet3) ≡ record { answer = 15; place = 65535 })
+unfolding ipv4Header rows9to10 onesPlus onesSum tabulate number digits overwrite bigEndian octetsOf endBytes marksBytes flowBytes numbersBytes entryBytes connectionAt entryAt placeAt zerosAt allFrom headerClock soundHeader freeAt soundAt soundTable firstFrom fromOpener fromAnswerer liveMatch vacant senderOf entryWith onEntry openingEntry unmatched onSegment sameFlow legalLength placesFor outcomeOf sameSyn reply verdictUnanswered verdictByRanges verdictOn opened repeated answered carried passed sent granted written soundFins soundEnd soundUnanswered soundConnection lifeOf withFin finsAfter openStage stageAfter sequenceMet ackMet further wrap ringPlus ringMinus nearest if_then_else_
 example = (refl, refl, refl)
 
 -- these are the bytes that the marked set's calls make, checksums and all

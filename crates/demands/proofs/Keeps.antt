@@ -1,43 +1,48 @@
 -- The machine on bytes keeps to rows 11 to 15 and 0 on the table that the bytes are.
-use Prim.Native.Nat.{ℕ, _^_, _<_}
-use mathlib.Core.Path.{_≡_, refl, sym, ap, _∙_}
+use Prim.Native.Nat.{ℕ, _^_, _≤_, _<_}
+use mathlib.Core.Path.{_≡_, refl, ap}
 use mathlib.Core.Logic.{_⊎_, inl, inr, ⊎-elim}
 use mathlib.Core.Bool.{true}
 use mathlib.Core.List.{List}
 use native.Mathlib.Omega.{arith}
-use Rattle.connection.specs.Sound.{soundConnection}
-use Rattle.rows.specs.Rows.{Ask, Entry, Outcome, Blocked, Passed, clockUsed, filter, after}
-use Rattle.rows.specs.Connections.{connections}
 use Rattle.address.specs.Address.{IsFlow}
 use Rattle.address.specs.declared.Version.{Version}
+use Rattle.address.specs.declared.Version.the-variants.{V4}
+use Rattle.packet.specs.Read.{readIPv4}
+use Rattle.packet.specs.Reader.{ReaderOf}
+use Rattle.packet.specs.declared.PacketRead.{PacketRead}
+use Rattle.packet.proofs.Readable.{ipv4-reader}
+use Rattle.connection.specs.Sound.{soundConnection}
+use Rattle.history.specs.History.{Placeable}
+use Rattle.history.proofs.Places.{readable-placeable}
+use Rattle.rows.specs.Rows.{Ask, Entry, Outcome, Blocked, Passed, clockUsed, filter, after}
+use Rattle.rows.specs.Connections.{connections}
 use Rattle.entry.specs.Typed.{Typed}
 use Rattle.entry.specs.Viewed.{stored}
 use Rattle.entry.proofs.Octets.{typed-entryAt}
-use Rattle.filter.specs.Call.{tableOf, outcomeOf, replyOf, tableAfter}
+use Rattle.table.specs.Table.{headerClock}
+use Rattle.filter.specs.Call.{tableOf, replyOf, tableAfter}
 use Rattle.filter.proofs.Free.{freeEntry, typed-free}
 use Rattle.filter.proofs.Rows.{sound-table-clock}
 use Rattle.honest.specs.Machine.{Reading, refused, asks, apart, KeepsTo}
-use Rattle.history.specs.History.{Placeable}
-use Rattle.history.proofs.Places.{readable-placeable}
 use Rattle.honest.proofs.SoundKept.{Left, LeftBy, filter-left}
-use Rattle.demands.specs.Bytes.{BytesCall, SoundBytes, readingOf, bytesMachine}
+use Rattle.demands.specs.Bytes.{BytesCall, SoundBytes, readingOf, called, bytesMachine, ipv4Machine}
 use Rattle.demands.proofs.View.{view-after}
 use Rattle.demands.proofs.Sound.{sound-view, typed-view}
 use Rattle.demands.proofs.SoundAfter.{sound-after}
 use Rattle.demands.proofs.Typed.{typed-entry}
-use Rattle.demands.proofs.Reading.{never-apart, asks-brought, refused-holds, asks-outcome, refused-outcome}
+use Rattle.demands.proofs.Reading.{Brought, never-apart, asks-brought, refused-holds, asks-outcome, refused-outcome}
 
 -- every answer but a pass changes no byte
 blocked-keeps : (v : Version) (t : List ℕ) (o : Outcome connections) → (replyOf o .answer ≡ 0 → ⊥) → tableAfter v t o ≡ t
 blocked-keeps v t (Blocked n) blocked = refl
 blocked-keeps v t (Passed p now e) blocked = absurd (blocked refl)
 
-asks-placeable : (v : Version) (q : BytesCall) (a : Ask) → readingOf v q ≡ asks a → Placeable (a .segment)
-asks-placeable v q a is = readable-placeable (a .segment) (asks-brought v q a is .segment)
+-- What a call that a packet brings leaves of a sound table
 
-module _ (v : Version) (t : List ℕ) (q : BytesCall) (a : Ask) (s : SoundBytes v t) (asked : readingOf v q ≡ asks a) where
+module _ (v : Version) (t : List ℕ) (a : Ask) (s : SoundBytes v t) (brought : Brought v a) where
   used-small : clockUsed connections (tableOf v t) a < 2 ^ 48
-  used-small = omega (arith, sound-table-clock v t _ (s .sound), asks-brought v q a asked .clock)
+  used-small = omega (arith, sound-table-clock v t _ (s .sound), brought .clock)
 
   -- the entry that a pass leaves is free or sound, and its numbers fit their bytes
   module _ (p now : ℕ) (e : Entry connections) (left : Left (tableOf v t) a p now e) where
@@ -49,7 +54,7 @@ module _ (v : Version) (t : List ℕ) (q : BytesCall) (a : Ask) (s : SoundBytes 
 
     entry-typed : Typed v (stored e)
     entry-typed =
-        let fits = left .key (IsFlow v) (typed-free v .key) (asks-brought v q a asked .key) (typed-entryAt v t _ (s .octets) .key) in
+        let fits = left .key (IsFlow v) (typed-free v .key) (brought .key) (typed-entryAt v t _ (s .octets) .key) in
         ⊎-elim (λ free. rw free (typed-free v)) (λ sound. typed-entry v now (stored e) sound now-small (left .sound .typed) fits) entry-sound
 
   left-view : (o : Outcome connections) → LeftBy (tableOf v t) a o → tableOf v (tableAfter v t o) ≡ after connections (tableOf v t) o
@@ -59,36 +64,52 @@ module _ (v : Version) (t : List ℕ) (q : BytesCall) (a : Ask) (s : SoundBytes 
   left-sound : (o : Outcome connections) → LeftBy (tableOf v t) a o → SoundBytes v (tableAfter v t o)
   left-sound (Blocked n) left = s
   left-sound (Passed p now e) left =
-      sound-after v t p now (stored e) s (left .inside) (now-small p now e left) (omega (arith, left .clock)) (entry-typed p now e left) (entry-sound p now e left)
+      let later : headerClock t ≤ now = omega (arith, left .clock) in
+      sound-after v t p now (stored e) s (left .inside) (now-small p now e left) later (entry-typed p now e left) (entry-sound p now e left)
 
   left-by : LeftBy (tableOf v t) a (filter connections (tableOf v t) a)
-  left-by = filter-left (tableOf v t) a (sound-view v t s) (typed-view v t s) (asks-brought v q a asked .side) (asks-placeable v q a asked)
+  left-by =
+      filter-left (tableOf v t) a (sound-view v t s) (typed-view v t s) (brought .side)
+      (readable-placeable (a .segment) (brought .segment))
 
-  asks-left : tableOf v (tableAfter v t (outcomeOf v (q .side) (q .clock) t (q .packet))) ≡ after connections (tableOf v t) (filter connections (tableOf v t) a)
-  asks-left = rw (asks-outcome v q t s a asked) (left-view (filter connections (tableOf v t) a) left-by)
+-- The machine
 
-  asks-sound : SoundBytes v (tableAfter v t (outcomeOf v (q .side) (q .clock) t (q .packet)))
-  asks-sound = rw (asks-outcome v q t s a asked) (left-sound (filter connections (tableOf v t) a) left-by)
+module _ (v : Version) (read : List ℕ → PacketRead) (reader : ReaderOf v read) where
+  asks-placeable : (q : BytesCall) (a : Ask) → readingOf read q ≡ asks a → Placeable (a .segment)
+  asks-placeable q a is = readable-placeable (a .segment) (asks-brought v read reader q a is .segment)
 
-sound-kept : (v : Version) (t : List ℕ) (q : BytesCall) → SoundBytes v t → SoundBytes v (tableAfter v t (outcomeOf v (q .side) (q .clock) t (q .packet)))
-sound-kept v t q s = go (readingOf v q) refl
-  where
-    go : (r : Reading Ask) → readingOf v q ≡ r → SoundBytes v (tableAfter v t (outcomeOf v (q .side) (q .clock) t (q .packet)))
-    go (refused n) is = rw (refused-outcome v q t s n is) s
-    go (asks a) is = asks-sound v t q a s is
-    go apart is = absurd (never-apart v q is)
+  module _ (t : List ℕ) (q : BytesCall) (a : Ask) (s : SoundBytes v t) (is : readingOf read q ≡ asks a) where
+    brought : Brought v a
+    brought = asks-brought v read reader q a is
 
-pub bytes-keep : (v : Version) → KeepsTo (bytesMachine v) (SoundBytes v)
-bytes-keep v = record {
-  refusal-answered = λ t q n s is. ap (λ o. replyOf o .answer) (refused-outcome v q t s n is);
-  refusal-placed = λ t q n s is. ap (λ o. replyOf o .place) (refused-outcome v q t s n is);
-  refusal-blocks = λ q n is zero. omega (arith, refused-holds v q n is);
-  answered = λ t q a s is. ap (λ o. replyOf o .answer) (asks-outcome v q t s a is);
-  placed = λ t q a s is. ap (λ o. replyOf o .place) (asks-outcome v q t s a is);
-  left = λ t q a s is. asks-left v t q a s is;
-  well-formed = λ q a is. asks-placeable v q a is;
-  blocked-keeps = λ t q blocked. ap (tableOf v) (blocked-keeps v t (outcomeOf v (q .side) (q .clock) t (q .packet)) blocked);
-  apart-keeps = λ t q s is. absurd (never-apart v q is);
-  sound-view = λ t s. sound-view v t s;
-  sound-kept = λ t q s. sound-kept v t q s;
-}
+    asks-left : tableOf v (tableAfter v t (called v read t q)) ≡ after connections (tableOf v t) (filter connections (tableOf v t) a)
+    asks-left = rw (asks-outcome v read q t s a is) (left-view v t a s brought (filter connections (tableOf v t) a) (left-by v t a s brought))
+
+    asks-sound : SoundBytes v (tableAfter v t (called v read t q))
+    asks-sound = rw (asks-outcome v read q t s a is) (left-sound v t a s brought (filter connections (tableOf v t) a) (left-by v t a s brought))
+
+  sound-kept : (t : List ℕ) (q : BytesCall) → SoundBytes v t → SoundBytes v (tableAfter v t (called v read t q))
+  sound-kept t q s = go (readingOf read q) refl
+    where
+      go : (r : Reading Ask) → readingOf read q ≡ r → SoundBytes v (tableAfter v t (called v read t q))
+      go (refused n) is = rw (refused-outcome v read q t s n is) s
+      go (asks a) is = asks-sound t q a s is
+      go apart is = absurd (never-apart v read reader q is)
+
+  pub bytes-keep : KeepsTo (bytesMachine v read) (SoundBytes v)
+  bytes-keep = record {
+    refusal-answered = λ t q n s is. ap (λ o. replyOf o .answer) (refused-outcome v read q t s n is);
+    refusal-placed = λ t q n s is. ap (λ o. replyOf o .place) (refused-outcome v read q t s n is);
+    refusal-blocks = λ q n is zero. omega (arith, refused-holds v read reader q n is);
+    answered = λ t q a s is. ap (λ o. replyOf o .answer) (asks-outcome v read q t s a is);
+    placed = λ t q a s is. ap (λ o. replyOf o .place) (asks-outcome v read q t s a is);
+    left = asks-left;
+    well-formed = asks-placeable;
+    blocked-keeps = λ t q blocked. ap (tableOf v) (blocked-keeps v t (called v read t q) blocked);
+    apart-keeps = λ t q s is. absurd (never-apart v read reader q is);
+    sound-view = sound-view v;
+    sound-kept = sound-kept;
+  }
+
+pub ipv4-keeps : KeepsTo ipv4Machine (SoundBytes V4)
+ipv4-keeps = bytes-keep V4 readIPv4 ipv4-reader

@@ -13,7 +13,7 @@ use Rattle.serial.specs.Ring.{wrap, ringMinus}
 use Rattle.octets.specs.Digits.{number, digits}
 use Rattle.octets.specs.BigEndian.{bigEndian, octetsOf}
 use Rattle.packet.specs.Sum.{onesPlus, onesSum}
-use Rattle.packet.specs.Read.{carried4, rows9to10}
+use Rattle.packet.specs.Read.{readIPv4, ipv4Header, rows9to10}
 use Rattle.connection.specs.Sound.{soundFins, soundEnd, soundUnanswered, soundConnection}
 use Rattle.rows.specs.Rows as rows
 use Rattle.rows.specs.Rows.{Ask, View, Passed, filter, answerOf, placeBy}
@@ -34,7 +34,7 @@ use Rattle.demands.specs.Marked.{saidTo, emptyBytes, openedBytes, stateK
 use Rattle.demands.proofs.View.{view-after}
 use Rattle.demands.proofs.SoundAfter.{sound-after}
 use Rattle.demands.proofs.Fresh.{fresh-bytes-sound, fresh-bytes-view}
-use Rattle.demands.proofs.Keeps.{bytes-keep}
+use Rattle.demands.proofs.Keeps.{ipv4-keeps}
 
 -- sound bytes that are a table
 abbrev Is : List ℕ → View connections → Type 0
@@ -42,19 +42,20 @@ Is t T = SoundBytes V4 t × (tableOf V4 t ≡ T)
 
 -- a call's packet is read as what it was made from
 abbrev Read : Ask → Type 0
-Read a = readingOf V4 (bytesCall a) ≡ asks a
+Read a = readingOf readIPv4 (bytesCall a) ≡ asks a
 
 -- A case that holds without bytes holds on bytes
 
 module _ (t : List ℕ) (T : View connections) (a : Ask) (is : Is t T) (read : Read a) where
   answer-same : saidTo t a .answer ≡ answerOf connections (filter connections T a)
-  answer-same = bytes-keep V4 .answered t (bytesCall a) a (is .0) read ∙ ap (λ u. answerOf connections (filter connections u a)) (is .1)
+  answer-same = ipv4-keeps .answered t (bytesCall a) a (is .0) read ∙ ap (λ u. answerOf connections (filter connections u a)) (is .1)
 
   place-same : saidTo t a .place ≡ placeBy (λ p. p) (filter connections T a)
-  place-same = bytes-keep V4 .placed t (bytesCall a) a (is .0) read ∙ ap (λ u. placeBy (λ p. p) (filter connections u a)) (is .1)
+  place-same = ipv4-keeps .placed t (bytesCall a) a (is .0) read ∙ ap (λ u. placeBy (λ p. p) (filter connections u a)) (is .1)
 
   next-is : Is (saidTo t a .next) (after T a)
-  next-is = (bytes-keep V4 .sound-kept t (bytesCall a) (is .0), bytes-keep V4 .left t (bytesCall a) a (is .0) read ∙ ap (λ u. after u a) (is .1))
+  next-is =
+      (ipv4-keeps .sound-kept t (bytesCall a) (is .0), ipv4-keeps .left t (bytesCall a) a (is .0) read ∙ ap (λ u. after u a) (is .1))
 
 some-place : (t : List ℕ) → SoundBytes V4 t → 0 < placesIn V4 t
 some-place t s = inside-places V4 (length t) 0 (omega (arith, legal-length-bounds V4 (length t) (s .legal) .0, next-place V4 0))
@@ -77,11 +78,11 @@ holds-on-bytes c t is read hold =
 
 -- all of a list's
 abbrev IsRead : List Case → Type 0
-IsRead l = map (λ (c : Case). readingOf V4 (bytesCall (c .call))) l ≡ map (λ (c : Case). asks (c .call)) l
+IsRead l = map (λ (c : Case). readingOf readIPv4 (bytesCall (c .call))) l ≡ map (λ (c : Case). asks (c .call)) l
 
 -- by computation, C11's 65,535 bytes among them
 all-read : Read packet1 × Read packet2 × IsRead markedSet
-unfolding if_then_else_ wrap number digits bigEndian octetsOf onesPlus onesSum carried4 rows9to10 readingOf fieldOctets octetsIn checksum payloadOf ipHeader tcpHeader pseudoHeader packetOf
+unfolding if_then_else_ wrap number digits bigEndian octetsOf onesPlus onesSum ipv4Header rows9to10 readingOf fieldOctets octetsIn checksum payloadOf ipHeader tcpHeader pseudoHeader packetOf
 all-read = (refl, refl, refl)
 
 -- The tables

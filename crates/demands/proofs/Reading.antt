@@ -5,24 +5,32 @@ use mathlib.Core.Bool.{not}
 use mathlib.Core.List.{List}
 use native.Mathlib.Omega.{arith}
 use borrow.Author.Tests.{leb-true, leb-false, not-false}
+use Rattle.choice.specs.Choice.{if_then_else_, _≤ᵇ_}
 use Rattle.choice.proofs.Choice.{if-false, if-ap, if-else, if-cases}
-use Rattle.octets.specs.Octets.{Octets}
 use Rattle.address.specs.Address.{IsFlow}
 use Rattle.address.specs.declared.Version.{Version}
-use Rattle.address.specs.declared.Flow.{Flow}
-use Rattle.address.proofs.Laws.{fits-flowAt}
 use Rattle.segment.specs.Readable.{Readable}
-use Rattle.segment.specs.declared.Segment.{Segment}
-use Rattle.packet.specs.Read.{readPacket, sourceAt}
+use Rattle.packet.specs.Reader.{ReaderOf}
 use Rattle.packet.specs.declared.PacketRead.{PacketRead}
 use Rattle.packet.specs.declared.PacketRead.the-variants.{Refused, Tcp}
 use Rattle.packet.proofs.Causes.{cause-5-to-10}
-use Rattle.packet.proofs.Readable.{segment-of, read-readable}
 use Rattle.rows.specs.Rows.{Ask, View, Blocked, filter}
 use Rattle.rows.specs.Connections.{connections}
-use Rattle.filter.specs.Call.{Outcome, tableOf, clockUsed, rows5to10, onPacket, outcomeOf}
+use Rattle.filter.specs.Call.{Outcome, tableOf, rows5to10, askOf, outcomeOf}
 use Rattle.honest.specs.Machine.{Reading, refused, asks, apart}
-use Rattle.demands.specs.Bytes.{BytesCall, SoundBytes, readingOf}
+use Rattle.demands.specs.Bytes.{BytesCall, SoundBytes, readingOf, called}
+
+-- rows 5 to 10 of a call, or what it asks
+abbrev asked : BytesCall → PacketRead → Reading Ask
+asked q r = rows5to10 refused r (λ k g. asks (askOf (q .side) (q .clock) k g))
+
+-- on a sound table rows 3 and 4 say nothing
+readingOf≡rows : (read : List ℕ → PacketRead) (q : BytesCall) → readingOf read q ≡
+    (if not (q .side ≤ᵇ 1) then refused 1
+    else if 2 ^ 48 ≤ᵇ q .clock then refused 2
+    else asked q (read (q .packet)))
+unfolding readingOf
+readingOf≡rows read q = if-else _ _ (if-else _ _ (if-false _ _ _ refl ∙ if-false _ _ _ refl))
 
 -- On a sound table the call comes to its reading
 
@@ -31,20 +39,26 @@ onReading w (refused n) = Blocked n
 onReading w (asks a) = filter connections w a
 onReading w apart = Blocked 0
 
-pub outcome-read :
-    (v : Version) (q : BytesCall) (t : List ℕ) → SoundBytes v t →
-    outcomeOf v (q .side) (q .clock) t (q .packet) ≡ onReading (tableOf v t) (readingOf v q)
-unfolding outcomeOf readingOf
-outcome-read v q t s =
-    if-else _ _ (if-else _ _ (if-false _ _ _ (ap not (s .legal)) ∙ if-false _ _ _ (ap not (s .sound)) ∙ by-packet (readPacket v (q .packet))))
-    ∙ sym (if-ap (onReading (tableOf v t)) _ _ _ ∙ if-else _ _ (if-ap (onReading (tableOf v t)) _ _ _))
-  where
-    by-packet :
-        (r : PacketRead) →
-        onPacket r (tableOf v t) (clockUsed t (q .clock)) (q .side)
-        ≡ onReading (tableOf v t) (rows5to10 refused r (λ k g. asks (record { side = q .side; clock = q .clock; key = k; segment = g })))
-    by-packet (Refused cause) = refl
-    by-packet (Tcp k g) = refl
+module _ (v : Version) (read : List ℕ → PacketRead) (q : BytesCall) (t : List ℕ) (s : SoundBytes v t) where
+  by-packet :
+      (r : PacketRead) →
+      rows5to10 Blocked r (λ k g. filter connections (tableOf v t) (askOf (q .side) (q .clock) k g))
+      ≡ onReading (tableOf v t) (asked q r)
+  by-packet (Refused cause) = refl
+  by-packet (Tcp k g) = refl
+
+  outcome-read : called v read t q ≡ onReading (tableOf v t) (readingOf read q)
+  unfolding outcomeOf
+  outcome-read =
+      if-else _ _ (if-else _ _ (if-false _ _ _ (ap not (s .legal)) ∙ if-false _ _ _ (ap not (s .sound)) ∙ by-packet (read (q .packet))))
+      ∙ sym (ap (onReading (tableOf v t)) (readingOf≡rows read q)
+      ∙ if-ap (onReading (tableOf v t)) _ _ _ ∙ if-else _ _ (if-ap (onReading (tableOf v t)) _ _ _))
+
+  pub asks-outcome : (a : Ask) → readingOf read q ≡ asks a → called v read t q ≡ filter connections (tableOf v t) a
+  asks-outcome a is = outcome-read ∙ ap (onReading (tableOf v t)) is
+
+  pub refused-outcome : (n : ℕ) → readingOf read q ≡ refused n → called v read t q ≡ Blocked n
+  refused-outcome n is = outcome-read ∙ ap (onReading (tableOf v t)) is
 
 -- What a reading holds
 
@@ -61,37 +75,28 @@ Holds v (refused n) = 1 ≤ n
 Holds v (asks a) = Brought v a
 Holds v apart = ⊥
 
-pub reading-holds : (v : Version) (q : BytesCall) → Holds v (readingOf v q)
-unfolding readingOf
-reading-holds v q =
-    if-cases (Holds v) _ _ _ (λ _. omega arith) (λ side-fine.
-    if-cases (Holds v) _ _ _ (λ _. omega arith) (λ clock-fine.
-    by-packet (leb-true _ _ (not-false _ side-fine)) (leb-false _ _ clock-fine) (readPacket v (q .packet)) refl))
-  where
-    key-fits : (k : Flow) (g : Segment) → readPacket v (q .packet) ≡ Tcp k g → IsFlow v k
-    key-fits k g read = let s = segment-of v (q .packet) k g read in rw (s .flow) (fits-flowAt v (q .packet) (sourceAt v) (s .h) (q .octets))
+module _ (v : Version) (read : List ℕ → PacketRead) (reader : ReaderOf v read) (q : BytesCall) where
+  packet-holds : q .side ≤ 1 → q .clock < 2 ^ 48 → (r : PacketRead) → read (q .packet) ≡ r → Holds v (asked q r)
+  packet-holds side clock (Refused cause) is = omega (arith, cause-5-to-10 cause .0)
+  packet-holds side clock (Tcp k g) is = record {
+    side = side;
+    clock = clock;
+    key = reader .flow (q .packet) k g (q .octets) is;
+    segment = reader .segment (q .packet) k g (q .octets) is;
+  }
 
-    by-packet :
-        q .side ≤ 1 → q .clock < 2 ^ 48 → (r : PacketRead) → readPacket v (q .packet) ≡ r →
-        Holds v (rows5to10 refused r (λ k g. asks (record { side = q .side; clock = q .clock; key = k; segment = g })))
-    by-packet side clock (Refused cause) read = omega (arith, cause-5-to-10 cause .0)
-    by-packet side clock (Tcp k g) read = record { side = side; clock = clock; key = key-fits k g read; segment = read-readable v (q .packet) k g (q .octets) read }
+  reading-holds : Holds v (readingOf read q)
+  reading-holds =
+      rw (readingOf≡rows read q)
+      (if-cases (Holds v) _ _ _ (λ _. omega arith) (λ side-fine.
+      if-cases (Holds v) _ _ _ (λ _. omega arith) (λ clock-fine.
+      packet-holds (leb-true _ _ (not-false _ side-fine)) (leb-false _ _ clock-fine) (read (q .packet)) refl)))
 
--- By a call's reading
+  pub never-apart : readingOf read q ≡ apart → ⊥
+  never-apart is = rw is at reading-holds
 
-module _ (v : Version) (q : BytesCall) where
-  pub never-apart : readingOf v q ≡ apart → ⊥
-  never-apart is = rw is at (reading-holds v q)
+  pub asks-brought : (a : Ask) → readingOf read q ≡ asks a → Brought v a
+  asks-brought a is = rw is at reading-holds
 
-  pub asks-brought : (a : Ask) → readingOf v q ≡ asks a → Brought v a
-  asks-brought a is = rw is at (reading-holds v q)
-
-  pub refused-holds : (n : ℕ) → readingOf v q ≡ refused n → 1 ≤ n
-  refused-holds n is = rw is at (reading-holds v q)
-
-  module _ (t : List ℕ) (s : SoundBytes v t) where
-    pub asks-outcome : (a : Ask) → readingOf v q ≡ asks a → outcomeOf v (q .side) (q .clock) t (q .packet) ≡ filter connections (tableOf v t) a
-    asks-outcome a is = outcome-read v q t s ∙ ap (onReading (tableOf v t)) is
-
-    pub refused-outcome : (n : ℕ) → readingOf v q ≡ refused n → outcomeOf v (q .side) (q .clock) t (q .packet) ≡ Blocked n
-    refused-outcome n is = outcome-read v q t s ∙ ap (onReading (tableOf v t)) is
+  pub refused-holds : (n : ℕ) → readingOf read q ≡ refused n → 1 ≤ n
+  refused-holds n is = rw is at reading-holds

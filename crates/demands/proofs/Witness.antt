@@ -9,9 +9,9 @@ use Rattle.octets.specs.Digits.{number, digits}
 use Rattle.octets.specs.BigEndian.{bigEndian, octetsOf}
 use Rattle.octets.specs.Overwrite.{overwrite}
 use Rattle.packet.specs.Sum.{onesPlus, onesSum}
-use Rattle.packet.specs.Read.{carried4, rows9to10}
+use Rattle.packet.specs.Read.{readIPv4, ipv4Header, rows9to10}
 use Rattle.rows.specs.Connections.{connections}
-use Rattle.honest.specs.Machine.{refused}
+use Rattle.honest.specs.Machine.{refused, Machine}
 use Rattle.honest.specs.Rules.{Event, Pair}
 use Rattle.honest.specs.Honest.{Legal, NeverBlocked}
 use Rattle.honest.specs.Demand2.{fresh}
@@ -21,47 +21,60 @@ use Rattle.honest.specs.Carries.{Carries, readings, summaryOf}
 use Rattle.honest.specs.Witness.{ends, witness}
 use Rattle.honest.proofs.Transfer.{made-carries, refused-carries, legal-carried, summary-carried}
 use Rattle.honest.proofs.Witness.{witness-legal, witness-shows}
-use Rattle.demands.specs.Bytes.{BytesCall, SoundBytes, readingOf, bytesMachine}
+use Rattle.demands.specs.Bytes.{BytesCall, SoundBytes, readingOf, ipv4Machine}
 use Rattle.demands.specs.Demands.{freshBytes}
 use Rattle.demands.specs.Packets.{fieldOctets, octetsIn, checksum, payloadOf, ipHeader, tcpHeader, pseudoHeader, packetOf, bytesCall}
 use Rattle.demands.specs.Witness.{madeWitness, wrongSum, fragment, bytesWitness}
 use Rattle.demands.proofs.Fresh.{fresh-bytes-sound, fresh-bytes-view}
-use Rattle.demands.proofs.Keeps.{bytes-keep}
-use Rattle.demands.proofs.Demands.{demand3-on-bytes}
+use Rattle.demands.proofs.Keeps.{ipv4-keeps}
+use Rattle.demands.proofs.Demands.{demands-of-ipv4}
 
 -- From an all-zero table, by the fresh one that it is
 
-module _ (n : ℕ) (some : 1 ≤ n) (most : n ≤ 512) {L : List (Event BytesCall)} {N : List (Event ViewCall)} (carries : Carries (bytesMachine V4) L N) where
+abbrev viewed : Machine
+viewed = viewMachine (λ p. p)
+
+module _
+    (n : ℕ) (some : 1 ≤ n) (most : n ≤ 512) {L : List (Event BytesCall)} {N : List (Event ViewCall)} (carries : Carries ipv4Machine L N) where
   sound : SoundBytes V4 (freshBytes V4 n)
   sound = fresh-bytes-sound V4 n some most
 
-  legal-on-bytes : (P : Pair) → Legal (viewMachine (λ p. p)) (fresh connections n) P N → Legal (bytesMachine V4) (freshBytes V4 n) P L
-  legal-on-bytes P legal = legal-carried (bytesMachine V4) (SoundBytes V4) (bytes-keep V4) (freshBytes V4 n) sound P L N carries (rw (fresh-bytes-view V4 n) legal)
+  legal-on-bytes : (P : Pair) → Legal viewed (fresh connections n) P N → Legal ipv4Machine (freshBytes V4 n) P L
+  legal-on-bytes P legal =
+      legal-carried ipv4Machine (SoundBytes V4) ipv4-keeps (freshBytes V4 n) sound P L N carries (rw (fresh-bytes-view V4 n) legal)
 
-  summary-on-bytes : summaryOf (bytesMachine V4) (freshBytes V4 n) L ≡ summaryOf (viewMachine (λ p. p)) (fresh connections n) N
-  summary-on-bytes = summary-carried (bytesMachine V4) (SoundBytes V4) (bytes-keep V4) (freshBytes V4 n) sound L N carries ∙ ap (λ t. summaryOf (viewMachine (λ p. p)) t N) (fresh-bytes-view V4 n)
+  summary-on-bytes : summaryOf ipv4Machine (freshBytes V4 n) L ≡ summaryOf viewed (fresh connections n) N
+  summary-on-bytes =
+      summary-carried ipv4Machine (SoundBytes V4) ipv4-keeps (freshBytes V4 n) sound L N carries
+      ∙ ap (λ t. summaryOf viewed t N) (fresh-bytes-view V4 n)
 
 -- The witness
 
-all-read : (readings (bytesMachine V4) madeWitness ≡ readings (viewMachine (λ p. p)) witness) × (readingOf V4 wrongSum ≡ refused 6) × (readingOf V4 fragment ≡ refused 7)
-unfolding if_then_else_ wrap number digits bigEndian octetsOf overwrite onesPlus onesSum carried4 rows9to10 readingOf fieldOctets octetsIn checksum payloadOf ipHeader tcpHeader pseudoHeader packetOf
+all-read :
+    (readings ipv4Machine madeWitness ≡ readings viewed witness)
+    × (readingOf readIPv4 wrongSum ≡ refused 6)
+    × (readingOf readIPv4 fragment ≡ refused 7)
+unfolding if_then_else_ wrap number digits bigEndian octetsOf overwrite onesPlus onesSum ipv4Header rows9to10 readingOf fieldOctets octetsIn checksum payloadOf ipHeader tcpHeader pseudoHeader packetOf
 all-read = (refl, refl, refl)
 
 -- the two packets that are malformed
-pub bytes-witness-refuses : (readingOf V4 wrongSum ≡ refused 6) × (readingOf V4 fragment ≡ refused 7)
+pub bytes-witness-refuses : (readingOf readIPv4 wrongSum ≡ refused 6) × (readingOf readIPv4 fragment ≡ refused 7)
 bytes-witness-refuses = (all-read .1, all-read .2)
 
-witness-carried : Carries (bytesMachine V4) bytesWitness witness
+witness-carried : Carries ipv4Machine bytesWitness witness
 witness-carried =
-    refused-carries (bytesMachine V4) 38 fragment 7 (bytes-witness-refuses .1)
-    (refused-carries (bytesMachine V4) 53 wrongSum 6 (bytes-witness-refuses .0) (made-carries (bytesMachine V4) (λ b. bytesCall (b .0)) witness (all-read .0)))
+    refused-carries ipv4Machine 38 fragment 7 (bytes-witness-refuses .1)
+    (refused-carries ipv4Machine 53 wrongSum 6 (bytes-witness-refuses .0)
+    (made-carries ipv4Machine (λ b. bytesCall (b .0)) witness (all-read .0)))
 
-pub bytes-witness-legal : Legal (bytesMachine V4) (freshBytes V4 64) ends bytesWitness
+pub bytes-witness-legal : Legal ipv4Machine (freshBytes V4 64) ends bytesWitness
 bytes-witness-legal = legal-on-bytes 64 (omega arith) (omega arith) witness-carried ends witness-legal
 
-pub bytes-witness-passes : NeverBlocked (bytesMachine V4) (freshBytes V4 64) bytesWitness
-bytes-witness-passes = demand3-on-bytes V4 64 (omega arith) (omega arith) ends (omega arith) bytesWitness bytes-witness-legal
+pub bytes-witness-passes : NeverBlocked ipv4Machine (freshBytes V4 64) bytesWitness
+bytes-witness-passes =
+    demands-of-ipv4 .demand3 64 (omega arith) (omega arith) ends (omega arith) bytesWitness bytes-witness-legal
 
 -- of the calls that ask something and are no arrivals, the two openings pass and the two others are blocked; every FIN has passed
-pub bytes-witness-shows : summaryOf (bytesMachine V4) (freshBytes V4 64) bytesWitness ≡ record { others = 0 ∷ 11 ∷ 14 ∷ 0 ∷ []; place = 1; stage = 5 }
+pub bytes-witness-shows :
+    summaryOf ipv4Machine (freshBytes V4 64) bytesWitness ≡ record { others = 0 ∷ 11 ∷ 14 ∷ 0 ∷ []; place = 1; stage = 5 }
 bytes-witness-shows = summary-on-bytes 64 (omega arith) (omega arith) witness-carried ∙ witness-shows

@@ -1,4 +1,4 @@
--- The call on bytes as a machine: a state is a table's bytes, a call side, clock and packet.
+-- The call on bytes as a machine, of any IP version by its reader: a state is a table's bytes, a call side, clock and packet.
 use Prim.Native.Nat.{ℕ}
 use mathlib.Core.Path.{_≡_}
 use mathlib.Core.Bool.{true}
@@ -6,11 +6,13 @@ use mathlib.Core.List.{List}
 use lib.ListN.{length}
 use Rattle.octets.specs.Octets.{Octets}
 use Rattle.address.specs.declared.Version.{Version}
-use Rattle.packet.specs.Read.{readPacket}
+use Rattle.address.specs.declared.Version.the-variants.{V4}
+use Rattle.packet.specs.Read.{readIPv4}
+use Rattle.packet.specs.declared.PacketRead.{PacketRead}
 use Rattle.rows.specs.Rows.{Ask}
 use Rattle.table.specs.Table.{soundTable}
 use Rattle.filter.specs.Length.{legalLength}
-use Rattle.filter.specs.Call.{placesIn, tableOf, rows1to2, rows5to10, outcomeOf, replyOf, tableAfter}
+use Rattle.filter.specs.Call.{Outcome, placesIn, tableOf, rows1to10, askOf, outcomeOf, replyOf, tableAfter}
 use Rattle.honest.specs.Machine.{Reading, refused, asks, Machine}
 
 pub record BytesCall : Type 0 where
@@ -25,23 +27,30 @@ pub record SoundBytes (v : Version) (t : List ℕ) : Type 0 where
   pub legal : legalLength v (length t) ≡ true
   pub sound : soundTable v t (placesIn v t) ≡ true
 
--- What a call asks: rows 1, 2 and 5 to 10, or the segment
+-- what a call asks: the call's own list on such a table, so that rows 1, 2 and 5 to 10 refuse, and what follows them is asked
+unfoldable pub readingOf : (List ℕ → PacketRead) → BytesCall → Reading Ask
+readingOf read q =
+    rows1to10 refused (q .side) (q .clock) true true (read (q .packet)) (λ k g. asks (askOf (q .side) (q .clock) k g))
 
-unfoldable pub readingOf : Version → BytesCall → Reading Ask
-readingOf v q =
-    rows1to2 refused (q .side) (q .clock)
-    (rows5to10 refused (readPacket v (q .packet)) (λ k g. asks (record { side = q .side; clock = q .clock; key = k; segment = g })))
+module _ (v : Version) (read : List ℕ → PacketRead) where
+  -- what a call comes to
+  abbrev pub called : List ℕ → BytesCall → Outcome
+  called t q = outcomeOf v (q .side) (q .clock) t (read (q .packet))
 
-abbrev pub bytesMachine : Version → Machine
-bytesMachine v = record {
-  State = List ℕ;
-  Call = BytesCall;
-  run = λ t q. record {
-    answer = replyOf (outcomeOf v (q .side) (q .clock) t (q .packet)) .answer;
-    place = replyOf (outcomeOf v (q .side) (q .clock) t (q .packet)) .place;
-    next = tableAfter v t (outcomeOf v (q .side) (q .clock) t (q .packet));
-  };
-  view = tableOf v;
-  number = λ p. p;
-  reads = readingOf v;
-}
+  abbrev pub bytesMachine : Machine
+  bytesMachine = record {
+    State = List ℕ;
+    Call = BytesCall;
+    run = λ t q. record {
+      answer = replyOf (called t q) .answer;
+      place = replyOf (called t q) .place;
+      next = tableAfter v t (called t q);
+    };
+    view = tableOf v;
+    number = λ p. p;
+    reads = readingOf read;
+  }
+
+-- the IPv4 filter
+abbrev pub ipv4Machine : Machine
+ipv4Machine = bytesMachine V4 readIPv4

@@ -1,13 +1,18 @@
--- Demands 1 to 3 of the call on bytes.
+-- Demands 1 to 3 of the call on bytes, of any IP version by its reader; and of the IPv4 filter.
 use Prim.Native.Nat.{ℕ, _+_, _≤_, _<_}
 use mathlib.Core.Path.{_≡_}
 use mathlib.Core.Logic.{_⊎_}
 use mathlib.Core.List.{List, [], _∷_}
-use Rattle.octets.specs.Overwrite.{overwrite}
-use Rattle.table.specs.Table.{headerMark}
 use lib.ListN.{length, getD, replicate}
-use Rattle.entry.specs.Layout.{entrySize, placeAt}
+use Rattle.octets.specs.Overwrite.{overwrite}
+use Rattle.address.specs.declared.Version.{Version}
+use Rattle.address.specs.declared.Version.the-variants.{V4}
+use Rattle.packet.specs.Read.{readIPv4}
+use Rattle.packet.specs.Reader.{ReaderOf}
+use Rattle.packet.specs.declared.PacketRead.{PacketRead}
 use Rattle.rows.specs.Rows.{nowhere}
+use Rattle.entry.specs.Layout.{entrySize, placeAt}
+use Rattle.table.specs.Table.{headerMark}
 use Rattle.filter.specs.Call.{Outcome, placesIn, outcomeOf, replyOf, tableAfter}
 use Rattle.honest.specs.Rules.{Event, Pair}
 use Rattle.honest.specs.Honest.{Legal, NeverBlocked, Demand3}
@@ -15,11 +20,8 @@ use Rattle.honest.specs.Histories.{histories, inNumbers}
 use Rattle.honest.specs.Demand2.{tableAfter as historiesAfter, asked, stateAfter, MachineFollows}
 use Rattle.demands.specs.Bytes.{BytesCall, SoundBytes, bytesMachine}
 use Rattle.demands.specs.Encoded.{tableBytes}
-use Rattle.address.specs.declared.Version.{Version}
 
 module _ (v : Version) where
-  -- Demand 1: any bytes, side, clock and table get one of the numbered answers, and only a pass changes the table
-
   -- what is left alone by a pass at a place: all but the header clock and that entry
   abbrev pub Elsewhere : ℕ → ℕ → Type 0
   Elsewhere p i = (8 ≤ i) × ((i < placeAt v p) ⊎ (placeAt v p + entrySize v ≤ i))
@@ -34,29 +36,44 @@ module _ (v : Version) where
     pub blocked-place : (replyOf o .answer ≡ 0 → ⊥) → replyOf o .place ≡ nowhere
     pub blocked-keeps : (replyOf o .answer ≡ 0 → ⊥) → tableAfter v t o ≡ t
 
-  -- nothing is asked of side, clock, table and packet
-  abbrev pub Demand1OnBytes : Type 0
-  Demand1OnBytes = (side clock : ℕ) (t packet : List ℕ) → Demand1For t (outcomeOf v side clock t packet)
-
-  -- Demands 2 and 3, from an all-zero table of any legal size
-
-  -- a fresh table with n places: zeros but for the version's mark
+  -- a fresh table with n places: zeros but for the version's mark, which is 0 in an IPv4 table
   abbrev pub freshBytes : ℕ → List ℕ
   freshBytes n = overwrite (replicate (placeAt v n) 0) 62 (headerMark v ∷ [])
 
-  -- after each list of calls the table's bytes are those of the histories' numbers modulo 2^32, and each answer and each place of the next
-  -- call is what the histories on the unwrapped line give
-  abbrev pub Demand2OnBytes : Type 0
-  Demand2OnBytes =
-      (n : ℕ) → 1 ≤ n → n ≤ 512 → (l : List BytesCall) →
-      (stateAfter (bytesMachine v) (freshBytes n) l ≡ tableBytes v (inNumbers (historiesAfter histories n (asked (bytesMachine v) l))))
-      × MachineFollows (bytesMachine v) (freshBytes n) n l
+  module _ (read : List ℕ → PacketRead) where
+    -- Demand 1: any bytes, side, clock and table get one of the numbered answers, and only a pass changes the table. Nothing is asked of them
+    abbrev pub Demand1OnBytes : Type 0
+    Demand1OnBytes = (side clock : ℕ) (t packet : List ℕ) → Demand1For t (outcomeOf v side clock t (read packet))
 
-  -- two honest ends are never blocked, from an all-zero table; and from any sound one
-  abbrev pub Demand3OnBytes : Type 0
-  Demand3OnBytes =
-      (n : ℕ) → 1 ≤ n → n ≤ 512 → (P : Pair) → P .side ≤ 1 → (L : List (Event BytesCall)) →
-      Legal (bytesMachine v) (freshBytes n) P L → NeverBlocked (bytesMachine v) (freshBytes n) L
+    -- Demand 2: after every list of calls from a fresh table, the table's bytes are those of the histories' numbers modulo 2^32, and each
+    -- answer and each place of the next call is what the histories on the unwrapped line give
+    abbrev pub Demand2OnBytes : Type 0
+    Demand2OnBytes =
+        (n : ℕ) → 1 ≤ n → n ≤ 512 → (l : List BytesCall) →
+        let M = bytesMachine v read in
+        (stateAfter M (freshBytes n) l ≡ tableBytes v (inNumbers (historiesAfter histories n (asked M l))))
+        × MachineFollows M (freshBytes n) n l
 
-  abbrev pub Demand3FromSound : Type 0
-  Demand3FromSound = Demand3 (bytesMachine v) (SoundBytes v)
+    -- Demand 3: two honest ends are never blocked, from a fresh table; and from every sound one
+    abbrev pub Demand3OnBytes : Type 0
+    Demand3OnBytes =
+        (n : ℕ) → 1 ≤ n → n ≤ 512 → (P : Pair) → P .side ≤ 1 → (L : List (Event BytesCall)) →
+        Legal (bytesMachine v read) (freshBytes n) P L → NeverBlocked (bytesMachine v read) (freshBytes n) L
+
+    abbrev pub Demand3FromSound : Type 0
+    Demand3FromSound = Demand3 (bytesMachine v read) (SoundBytes v)
+
+-- all of them
+pub record Demands (v : Version) (read : List ℕ → PacketRead) : Type 0 where
+  pub demand1 : Demand1OnBytes v read
+  pub demand2 : Demand2OnBytes v read
+  pub demand3 : Demand3OnBytes v read
+  pub demand3-from-sound : Demand3FromSound v read
+
+-- whatever the IP version, of a reader that gives what that version's packets have
+abbrev pub DemandsOfEveryVersion : Type 0
+DemandsOfEveryVersion = (v : Version) (read : List ℕ → PacketRead) → ReaderOf v read → Demands v read
+
+-- the IPv4 filter's
+abbrev pub DemandsOfIPv4 : Type 0
+DemandsOfIPv4 = Demands V4 readIPv4

@@ -4,19 +4,20 @@ use mathlib.Core.Path.{_≡_}
 use mathlib.Core.Bool.{true}
 use mathlib.Core.List.{List, [], _∷_}
 use Rattle.choice.specs.Choice.{_=ᵇ_, if_then_else_}
-use Rattle.entry.specs.Layout.{placeAt, entryAt}
-use Rattle.rows.specs.Rows.{Ask, Passed, nowhere}
 use Rattle.address.specs.declared.Version.the-variants.{V4}
+use Rattle.packet.specs.Read.{readIPv4}
+use Rattle.rows.specs.Rows.{Ask, Passed, nowhere}
+use Rattle.entry.specs.Layout.{placeAt, entryAt}
 use Rattle.filter.specs.Call.{tableOf, tableAfter}
 use Rattle.honest.specs.Machine.{asks, Said}
 use Rattle.honest.specs.Marked.{packet1, packet2, entry11, Name, example, C, Case, isLeft}
-use Rattle.demands.specs.Bytes.{SoundBytes, readingOf, bytesMachine}
+use Rattle.demands.specs.Bytes.{SoundBytes, readingOf, ipv4Machine}
 use Rattle.demands.specs.Demands.{freshBytes}
 use Rattle.demands.specs.Packets.{bytesCall}
 
 -- what the call on bytes says to the packet that brings what is asked
 abbrev pub saidTo : List ℕ → Ask → Said (List ℕ)
-saidTo t a = bytesMachine V4 .run t (bytesCall a)
+saidTo t a = ipv4Machine .run t (bytesCall a)
 
 -- Tables
 
@@ -47,7 +48,7 @@ bytesBefore (C n) = if n =ᵇ 11 then state11Bytes else if n =ᵇ 12 then opened
 pub record OnBytes (c : Case) (t : List ℕ) : Type 0 where
   pub sound : SoundBytes V4 t
   pub table : tableOf V4 t ≡ c .table
-  pub reads : readingOf V4 (bytesCall (c .call)) ≡ asks (c .call)
+  pub reads : readingOf readIPv4 (bytesCall (c .call)) ≡ asks (c .call)
   pub answer : saidTo t (c .call) .answer ≡ c .answer
   pub place : saidTo t (c .call) .place ≡ (if c .answer =ᵇ 0 then 0 else nowhere)
   pub left : isLeft (c .left) (entryAt V4 (saidTo t (c .call) .next) (placeAt V4 0) .connection .ends) ≡ true

@@ -6,19 +6,18 @@ use native.Mathlib.Omega.{arith}
 use lib.ListN.{length}
 use borrow.Author.Tests.{not-false}
 use Rattle.choice.proofs.Choice.{if-either, if-cases, if-=, if-=-not}
+use Rattle.address.specs.declared.Flow.{Flow}
+use Rattle.address.specs.declared.Version.{Version}
 use Rattle.segment.specs.declared.Segment.{Segment}
-use Rattle.packet.specs.Read.{readPacket}
 use Rattle.packet.specs.declared.PacketRead.{PacketRead}
 use Rattle.packet.specs.declared.PacketRead.the-variants.{Refused, Tcp}
 use Rattle.packet.proofs.Causes.{cause-5-to-10}
-use Rattle.rows.specs.Rows.{Blocked, Passed}
+use Rattle.rows.specs.Rows.{Blocked, Passed, filter, clockUsed}
 use Rattle.rows.specs.Connections.{connections}
-use Rattle.address.specs.declared.Flow.{Flow}
-use Rattle.address.specs.declared.Version.{Version}
 use Rattle.rows.proofs.Rows.{Comes, blocks, passes, makes, comes}
 use Rattle.entry.specs.Layout.{entrySize, placeAt}
 use Rattle.entry.proofs.Places.{place-inside}
-use Rattle.filter.specs.Call.{Outcome, placesIn, tableOf, clockUsed, onPacket, outcomeOf, replyOf, tableAfter}
+use Rattle.filter.specs.Call.{Outcome, placesIn, tableOf, askOf, rows5to10, outcomeOf, replyOf, tableAfter}
 use Rattle.filter.specs.Decision.{decisionOf, written, Fits}
 use Rattle.filter.specs.declared.Decision.{Decision}
 use Rattle.filter.specs.declared.Reply.{Reply}
@@ -53,28 +52,31 @@ module _ (v : Version) (t : List ℕ) (long : placeAt v 1 ≤ length t) (short :
   comes-within now side k g o (passes p is _ inside _ _) = rw is (place-within p inside)
   comes-within now side k g o (makes p is _ inside _) = rw is (place-within p inside)
 
-  packet-within : (r : PacketRead) (now side : ℕ) → Within v t (onPacket r (tableOf v t) now side)
-  packet-within (Refused cause) now side = let h = cause-5-to-10 cause in (omega (arith, h .0), omega (arith, h .1))
-  packet-within (Tcp k g) now side = comes-within now side k g _ (comes connections (tableOf v t) now side k g)
+  read-within :
+      (side clock : ℕ) (read : PacketRead) →
+      Within v t (rows5to10 Blocked read (λ k g. filter connections (tableOf v t) (askOf side clock k g)))
+  read-within side clock (Refused cause) = let h = cause-5-to-10 cause in (omega (arith, h .0), omega (arith, h .1))
+  read-within side clock (Tcp k g) =
+      let now = clockUsed connections (tableOf v t) (askOf side clock k g) in
+      comes-within now side k g _ (comes connections (tableOf v t) now side k g)
 
-pub outcome-within : (v : Version) (side clock : ℕ) (t packet : List ℕ) → Within v t (outcomeOf v side clock t packet)
-unfolding outcomeOf
-outcome-within v side clock t packet =
-    if-either (Within v t) _ _ _ (omega arith, omega arith)
-    (if-either (Within v t) _ _ _ (omega arith, omega arith)
-    (if-cases (Within v t) _ _ _ (λ _. (omega arith, omega arith))
-    (λ legal. if-either (Within v t) _ _ _ (omega arith, omega arith)
-    (let h = legal-length-bounds v _ (not-false _ legal) in packet-within v t (h .0) (h .1) (readPacket v packet) (clockUsed t clock) side))))
+module _ (v : Version) (side clock : ℕ) (t : List ℕ) (read : PacketRead) where
+  pub outcome-within : Within v t (outcomeOf v side clock t read)
+  unfolding outcomeOf
+  outcome-within =
+      if-either (Within v t) _ _ _ (omega arith, omega arith)
+      (if-either (Within v t) _ _ _ (omega arith, omega arith)
+      (if-cases (Within v t) _ _ _ (λ _. (omega arith, omega arith))
+      (λ legal. if-either (Within v t) _ _ _ (omega arith, omega arith)
+      (let h = legal-length-bounds v _ (not-false _ legal) in read-within v t (h .0) (h .1) side clock read))))
 
-pub decision-fits : (v : Version) (side clock : ℕ) (t packet : List ℕ) (d : Decision) → d ≡ decisionOf (outcomeOf v side clock t packet) → Fits v t d
-decision-fits v side clock t packet d e = rw e (within-fits v t (outcomeOf v side clock t packet) (outcome-within v side clock t packet))
+  pub decision-fits : (d : Decision) → d ≡ decisionOf (outcomeOf v side clock t read) → Fits v t d
+  decision-fits d e = rw e (within-fits v t (outcomeOf v side clock t read) outcome-within)
 
--- an answer is at most 15, and a place at most 65,535
-pub reply-small :
-    (v : Version) (side clock : ℕ) (t packet : List ℕ) →
-    (replyOf (outcomeOf v side clock t packet) .answer ≤ 15) × (replyOf (outcomeOf v side clock t packet) .place ≤ 65535)
-reply-small v side clock t packet = go (outcomeOf v side clock t packet) (outcome-within v side clock t packet)
-  where
-    go : (o : Outcome) → Within v t o → (replyOf o .answer ≤ 15) × (replyOf o .place ≤ 65535)
-    go (Blocked n) h = (h .1, omega arith)
-    go (Passed p now e) h = (omega arith, omega (arith, h .0))
+  -- an answer is at most 15, and a place at most 65,535
+  pub reply-small : (replyOf (outcomeOf v side clock t read) .answer ≤ 15) × (replyOf (outcomeOf v side clock t read) .place ≤ 65535)
+  reply-small = go (outcomeOf v side clock t read) outcome-within
+    where
+      go : (o : Outcome) → Within v t o → (replyOf o .answer ≤ 15) × (replyOf o .place ≤ 65535)
+      go (Blocked n) h = (h .1, omega arith)
+      go (Passed p now e) h = (omega arith, omega (arith, h .0))

@@ -1,5 +1,5 @@
 -- Rows 1 to 4, each by the fact that its test asks for.
-use Prim.Native.Nat.{ℕ, _+_, _*_, _-_, _%_, _^_, _≤_, _<_}
+use Prim.Native.Nat.{ℕ, _+_, _*_, _-_, _%_, _^_, _≤_, _<_, max}
 use mathlib.Core.Path.{_≡_, ap, _∙_}
 use mathlib.Core.Bool.{true, false, not}
 use mathlib.Core.List.{List}
@@ -9,19 +9,26 @@ use borrow.Author.Tests.{le-leb, lt-leb, eq-eqb, eqb-true}
 use Rattle.choice.specs.Choice.{_=ᵇ_}
 use Rattle.choice.proofs.Choice.{if-true, if-false, if-≤, if-≤-not}
 use Rattle.choice.proofs.Tests.{&&-true, between-true}
-use Rattle.packet.specs.Read.{readPacket}
-use Rattle.rows.specs.Rows.{Blocked}
-use Rattle.entry.specs.Layout.{headerSize, entrySize, placeAt}
 use Rattle.address.specs.declared.Version.{Version}
 use Rattle.address.specs.declared.Version.the-variants.{V4, V6}
+use Rattle.packet.specs.declared.PacketRead.{PacketRead}
+use Rattle.rows.specs.Rows.{Blocked, onSegment}
+use Rattle.rows.specs.Connections.{connections}
+use Rattle.entry.specs.Layout.{headerSize, entrySize, placeAt}
 use Rattle.table.specs.Table.{headerClock, soundHeader, soundTable}
 use Rattle.table.proofs.Words.{header-clock-under}
 use Rattle.filter.specs.Length.{legalLength, placesFor}
-use Rattle.filter.specs.Call.{placesIn, tableOf, clockUsed, onPacket, outcomeOf}
+use Rattle.filter.specs.Call.{placesIn, tableOf, rows5to10, outcomeOf}
 
 pub legal-length-bounds : (v : Version) (n : ℕ) → legalLength v n ≡ true → (placeAt v 1 ≤ n) × (n ≤ placeAt v 512)
 unfolding legalLength
 legal-length-bounds v n e = between-true (placeAt v 1) (placeAt v 512) n (&&-true ((n - headerSize) % entrySize v =ᵇ 0) _ e .1)
+
+-- a table's places are numbers of the machine
+pub place-small : (v : Version) (p : ℕ) → p ≤ 512 → placeAt v p < 2 ^ 64
+unfolding placeAt
+place-small V4 p h = omega arith
+place-small V6 p h = omega arith
 
 -- the places of a table lie in it, and are at most 512
 pub places-inside : (v : Version) (n : ℕ) → placeAt v 1 ≤ n → placeAt v (placesFor v n) ≤ n
@@ -74,28 +81,29 @@ unfolding soundTable
 sound-table-clock v t n e = header-clock-under v t (&&-true (soundHeader v t) _ e .0)
 
 -- rows 1 to 4, and what comes after them
-module _ (v : Version) (side clock : ℕ) (t packet : List ℕ) where
-  pub row-1 : 1 < side → outcomeOf v side clock t packet ≡ Blocked 1
+module _ (v : Version) (side clock : ℕ) (t : List ℕ) (read : PacketRead) where
+  pub row-1 : 1 < side → outcomeOf v side clock t read ≡ Blocked 1
   unfolding outcomeOf
   row-1 h = if-true _ _ _ (ap not (lt-leb side 1 h))
 
   module _ (h1 : side ≤ 1) where
-    pub row-2 : 2 ^ 48 ≤ clock → outcomeOf v side clock t packet ≡ Blocked 2
+    pub row-2 : 2 ^ 48 ≤ clock → outcomeOf v side clock t read ≡ Blocked 2
     unfolding outcomeOf
     row-2 h = if-false _ _ _ (ap not (le-leb side 1 h1)) ∙ if-≤ _ _ h
 
     module _ (h2 : clock < 2 ^ 48) where
-      pub row-3 : not (legalLength v (length t)) ≡ true → outcomeOf v side clock t packet ≡ Blocked 3
+      pub row-3 : not (legalLength v (length t)) ≡ true → outcomeOf v side clock t read ≡ Blocked 3
       unfolding outcomeOf
       row-3 h = if-false _ _ _ (ap not (le-leb side 1 h1)) ∙ if-≤-not _ _ h2 ∙ if-true _ _ _ h
 
       module _ (h3 : not (legalLength v (length t)) ≡ false) where
-        pub row-4 : not (soundTable v t (placesIn v t)) ≡ true → outcomeOf v side clock t packet ≡ Blocked 4
+        pub row-4 : not (soundTable v t (placesIn v t)) ≡ true → outcomeOf v side clock t read ≡ Blocked 4
         unfolding outcomeOf
         row-4 h = if-false _ _ _ (ap not (le-leb side 1 h1)) ∙ if-≤-not _ _ h2 ∙ if-false _ _ _ h3 ∙ if-true _ _ _ h
 
         pub past-row-4 :
             not (soundTable v t (placesIn v t)) ≡ false →
-            outcomeOf v side clock t packet ≡ onPacket (readPacket v packet) (tableOf v t) (clockUsed t clock) side
+            outcomeOf v side clock t read
+            ≡ rows5to10 Blocked read (onSegment connections (tableOf v t) (max clock (headerClock t)) side)
         unfolding outcomeOf
         past-row-4 h = if-false _ _ _ (ap not (le-leb side 1 h1)) ∙ if-≤-not _ _ h2 ∙ if-false _ _ _ h3 ∙ if-false _ _ _ h

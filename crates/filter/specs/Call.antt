@@ -1,24 +1,25 @@
--- One call of the filter on bytes (document 01, "What the gate says"); `outcomeOf` is the whole list. Rows 11 to 15 and 0 are `rows`'.
-use Prim.Native.Nat.{ℕ, _^_, max}
-use mathlib.Core.Bool.{not}
+-- One call of the filter (document 01, "What the gate says"), over what a reader gives of the packet; `outcomeOf` is the whole list.
+use Prim.Native.Nat.{ℕ, _^_}
+use mathlib.Core.Bool.{Bool, not}
 use mathlib.Core.List.{List}
 use lib.ListN.{length}
 use Rattle.choice.specs.Choice.{if_then_else_, _≤ᵇ_}
 use Rattle.octets.specs.BigEndian.{octetsOf}
 use Rattle.octets.specs.Overwrite.{overwrite}
-use Rattle.address.specs.declared.Version.{Version}
 use Rattle.address.specs.declared.Flow.{Flow}
+use Rattle.address.specs.declared.Version.{Version}
+use Rattle.address.specs.declared.Version.the-variants.{V4}
 use Rattle.segment.specs.declared.Segment.{Segment}
-use Rattle.packet.specs.Read.{readPacket, causeNumber}
+use Rattle.packet.specs.Read.{readIPv4, causeNumber}
 use Rattle.packet.specs.declared.PacketRead.{PacketRead}
 use Rattle.packet.specs.declared.PacketRead.the-variants.{Refused, Tcp}
 use Rattle.rows.specs.Rows as rows
-use Rattle.rows.specs.Rows.{View, Blocked, Passed, onSegment, answerOf, placeBy}
+use Rattle.rows.specs.Rows.{Ask, View, Blocked, Passed, answerOf, placeBy}
 use Rattle.rows.specs.Connections.{connections}
 use Rattle.entry.specs.Layout.{placeAt, entryBytes}
 use Rattle.entry.specs.Viewed.{stored}
 use Rattle.entry.specs.declared.Entry.{Entry}
-use Rattle.table.specs.Table.{headerClock, soundTable, viewOf}
+use Rattle.table.specs.Table.{soundTable, viewOf}
 use Rattle.filter.specs.Length.{legalLength, placesFor}
 use Rattle.filter.specs.declared.Reply.{Reply}
 
@@ -35,37 +36,41 @@ placesIn v t = placesFor v (length t)
 abbrev pub tableOf : Version → List ℕ → View connections
 tableOf v t = viewOf v t (placesIn v t)
 
--- clock used: the larger of the one given and the header's
-abbrev pub clockUsed : List ℕ → ℕ → ℕ
-clockUsed t clock = max clock (headerClock t)
-
--- Rows 1 to 10, each said once, whatever a refusal gives: the first line that applies wins, and `next` is what comes after the last
+-- The list, top to bottom: the first line that applies wins. Rows 1 to 10 are said here once, whatever a refusal gives, over whether the
+-- table's length is legal and its bytes are sound; `next` is what follows them
 
 module _ {A : Type 0} (refuse : ℕ → A) where
-  -- 1: side is not 0 or 1
-  -- 2: clock is 2^48 ms or more
-  abbrev pub rows1to2 : ℕ → ℕ → A → A
-  rows1to2 side clock next = if not (side ≤ᵇ 1) then refuse 1 else if 2 ^ 48 ≤ᵇ clock then refuse 2 else next
-
-  -- 3: table length
-  -- 4: table is unsound
-  abbrev pub rows3to4 : Version → List ℕ → A → A
-  rows3to4 v t next = if not (legalLength v (length t)) then refuse 3 else if not (soundTable v t (placesIn v t)) then refuse 4 else next
-
-  -- 5 to 10: what the packet is refused with
+  -- 5 to 10: as the reader has it
   abbrev pub rows5to10 : PacketRead → (Flow → Segment → A) → A
   rows5to10 (Refused cause) next = refuse (causeNumber cause)
   rows5to10 (Tcp k g) next = next k g
 
--- The call
+  abbrev pub rows1to10 : ℕ → ℕ → Bool → Bool → PacketRead → (Flow → Segment → A) → A
+  rows1to10 side clock legal sound read next =
+      -- 1: side is not 0 or 1
+      if not (side ≤ᵇ 1) then refuse 1
+      -- 2: clock is 2^48 ms or more
+      else if 2 ^ 48 ≤ᵇ clock then refuse 2
+      -- 3: table length
+      else if not legal then refuse 3
+      -- 4: table is unsound
+      else if not sound then refuse 4
+      -- 5 to 10
+      else rows5to10 read next
 
--- rows 5 to 15 and 0, on a view of a sound table by the clock used
-abbrev pub onPacket : PacketRead → View connections → ℕ → ℕ → Outcome
-onPacket r v now side = rows5to10 Blocked r (onSegment connections v now side)
+-- a packet's flow and segment, with its side and clock, as rows 11 to 15 and 0 are asked
+abbrev pub askOf : ℕ → ℕ → Flow → Segment → Ask
+askOf side clock k g = record { side = side; clock = clock; key = k; segment = g }
 
-unfoldable pub outcomeOf : Version → ℕ → ℕ → List ℕ → List ℕ → Outcome
-outcomeOf v side clock t packet =
-    rows1to2 Blocked side clock (rows3to4 Blocked v t (onPacket (readPacket v packet) (tableOf v t) (clockUsed t clock) side))
+-- 11 to 15 and 0: `rows.filter`, by the clock used
+unfoldable pub outcomeOf : Version → ℕ → ℕ → List ℕ → PacketRead → Outcome
+outcomeOf v side clock t read =
+    rows1to10 Blocked side clock (legalLength v (length t)) (soundTable v t (placesIn v t)) read
+    (λ k g. rows.filter connections (tableOf v t) (askOf side clock k g))
+
+-- the IPv4 filter
+abbrev pub ipv4Outcome : ℕ → ℕ → List ℕ → List ℕ → Outcome
+ipv4Outcome side clock t packet = outcomeOf V4 side clock t (readIPv4 packet)
 
 -- What a call gives and leaves
 

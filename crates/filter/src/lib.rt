@@ -1,15 +1,14 @@
-// One call of the filter: rows 1 to 15 and 0 of document 01.
+// One call of the filter: rows 1 to 15 and 0 of document 01, on a table of either IP version; and the filter of IPv4.
 ghost use mathlib.Core.Path.{_≡_};
-ghost use Prim.Native.Nat.{_^_, _≤_, _<_};
+ghost use Prim.Native.Nat.{_^_, _≤_, _<_, max};
 ghost use lib.ListN.{length};
 ghost use Rattle.entry.specs.Layout.{headerSize, placeAt};
 ghost use Rattle.entry.specs.Viewed.{viewed, stored};
-ghost use Rattle.packet.specs.Read.{readPacket};
 ghost use Rattle.rows.specs.Rows.{Blocked, Passed, freeEntry, entryWith, senderOf, onEntry, openingEntry, unmatched, onSegment};
 ghost use Rattle.rows.specs.Connections.{connections};
-ghost use Rattle.table.specs.Table.{viewOf};
+ghost use Rattle.table.specs.Table.{headerClock, viewOf};
 ghost use Rattle.filter.specs.Length.{legalLength, placesFor};
-ghost use Rattle.filter.specs.Call.{clockUsed, onPacket, outcomeOf, replyOf, tableAfter};
+ghost use Rattle.filter.specs.Call.{rows5to10, outcomeOf, ipv4Outcome, replyOf, tableAfter};
 ghost use Rattle.filter.specs.Decision.{decisionOf, written, Fits};
 use address::Address;
 use address::Endpoint;
@@ -19,10 +18,12 @@ use connection::Connection;
 use connection::End;
 use connection::Verdict;
 use entry::Entry;
+use entry::entry_size;
 use entry::load;
+use entry::place_at;
 use entry::store;
 use packet::PacketRead;
-use packet::read_packet;
+use packet::read_ipv4;
 use rows::Found;
 use segment::Segment;
 use serial::OctetCount;
@@ -214,39 +215,17 @@ fn commit(version: Version, table: &mut [u8], decision: Decision)
 }
 
 // Row 3: a header and n entries with n from 1 to 512.
-fn legal_length4(n: usize) -> bool
-    ensures { λ r. ⌜ r ≡ legalLength Version.V4 n ⌝ }
-{
-    if n < 128 {
-        return false;
-    }
-    let entries = n - 64;
-    if entries % 64 != 0 {
-        return false;
-    }
-    n <= 32_832
-}
-
-fn legal_length6(n: usize) -> bool
-    ensures { λ r. ⌜ r ≡ legalLength Version.V6 n ⌝ }
-{
-    if n < 160 {
-        return false;
-    }
-    let entries = n - 64;
-    if entries % 96 != 0 {
-        return false;
-    }
-    n <= 49_216
-}
-
 fn legal_length(version: Version, n: usize) -> bool
     ensures { λ r. ⌜ r ≡ legalLength version n ⌝ }
 {
-    match version {
-        Version::V4 => legal_length4(n),
-        Version::V6 => legal_length6(n),
+    if n < place_at(version, 1) {
+        return false;
     }
+    let entries = n - place_at(version, 0);
+    if entries % entry_size(version) != 0 {
+        return false;
+    }
+    n <= place_at(version, 512)
 }
 
 // How many entries a table of n bytes has.
@@ -254,16 +233,14 @@ fn places_for(version: Version, n: usize) -> usize
     requires { ⌜ headerSize ≤ n ⌝ }
     ensures { λ r. ⌜ r ≡ placesFor version n ⌝ }
 {
-    match version {
-        Version::V4 => (n - 64) / 64,
-        Version::V6 => (n - 64) / 96,
-    }
+    let entries = n - place_at(version, 0);
+    entries / entry_size(version)
 }
 
 // The larger of the clock given and the header's.
 fn clock_used(table: &[u8], given: u64) -> u64
     requires { ⌜ headerSize ≤ length (now table) ⌝ }
-    ensures { λ r. ⌜ r ≡ clockUsed (now (table .entry)) given ⌝ }
+    ensures { λ r. ⌜ r ≡ max given (headerClock (now (table .entry))) ⌝ }
 {
     let header = table::clock(table);
     if given < header {
@@ -272,19 +249,18 @@ fn clock_used(table: &[u8], given: u64) -> u64
     given
 }
 
-// Rows 5 to 15 and 0, on a sound table by the clock used.
-fn on_packet(
+// Rows 5 to 15 and 0, by what was read of the packet, on a sound table by the clock used.
+fn on_read(
     version: Version,
     table: &[u8],
     places: usize,
     clock: u64,
     side: u8,
-    packet: &[u8],
+    read: PacketRead,
 ) -> Decision
     requires { ⌜ (placeAt version places ≤ length (now table)) × (clock < 2 ^ 48) ⌝ }
-    ensures { λ r. ⌜ r ≡ decisionOf (onPacket (readPacket version (now (packet .entry))) (viewOf version (now (table .entry)) places) clock side) ⌝ }
+    ensures { λ r. ⌜ r ≡ decisionOf (rows5to10 Blocked read (onSegment connections (viewOf version (now (table .entry)) places) clock side)) ⌝ }
 {
-    let read = read_packet(version, packet);
     match read {
         PacketRead::Refused(cause) => blocked(cause.number()),
         PacketRead::Tcp(flow, segment) => on_segment(
@@ -299,9 +275,9 @@ fn on_packet(
     }
 }
 
-// Rows 1 to 4, then the packet: the first line that applies wins.
-fn decide(version: Version, side: u8, clock: u64, table: &[u8], packet: &[u8]) -> Decision
-    ensures { λ r. ⌜ r ≡ decisionOf (outcomeOf version side clock (now (table .entry)) (now (packet .entry))) ⌝ }
+// Rows 1 to 4, then what was read: the first line that applies wins.
+fn decide(version: Version, side: u8, clock: u64, table: &[u8], read: PacketRead) -> Decision
+    ensures { λ r. ⌜ r ≡ decisionOf (outcomeOf version side clock (now (table .entry)) read) ⌝ }
 {
     if 1 < side {
         return blocked(1);
@@ -317,17 +293,27 @@ fn decide(version: Version, side: u8, clock: u64, table: &[u8], packet: &[u8]) -
         return blocked(4);
     }
     let used = clock_used(table, clock);
-    on_packet(version, table, places, used, side, packet)
+    on_read(version, table, places, used, side, read)
 }
 
-// One call: the answer and the place, and the table that it leaves.
-pub fn filter(version: Version, side: u8, clock: u64, table: &mut [u8], packet: &[u8]) -> Reply
-    ensures { λ r. ⌜ (r ≡ replyOf (outcomeOf version side clock (now (table .entry)) (now (packet .entry)))) × (now (table .exit) ≡ tableAfter version (now (table .entry)) (outcomeOf version side clock (now (table .entry)) (now (packet .entry)))) ⌝ }
+// One call, by what the version's reader gives of the packet: the answer and the place, and the table that it leaves.
+pub fn filter(version: Version, side: u8, clock: u64, table: &mut [u8], read: PacketRead) -> Reply
+    ensures { λ r. let o = outcomeOf version side clock (now (table .entry)) read in
+        ⌜ (r ≡ replyOf o) × (now (table .exit) ≡ tableAfter version (now (table .entry)) o) ⌝ }
 {
-    let decision = decide(version, side, clock, table, packet);
+    let decision = decide(version, side, clock, table, read);
     commit(version, table, decision);
     Reply {
         answer: decision.answer,
         place: decision.place,
     }
+}
+
+// The IPv4 filter.
+pub fn filter_ipv4(side: u8, clock: u64, table: &mut [u8], packet: &[u8]) -> Reply
+    ensures { λ r. let o = ipv4Outcome side clock (now (table .entry)) (now (packet .entry)) in
+        ⌜ (r ≡ replyOf o) × (now (table .exit) ≡ tableAfter Version.V4 (now (table .entry)) o) ⌝ }
+{
+    let read = read_ipv4(packet);
+    filter(Version::V4, side, clock, table, read)
 }

@@ -1,5 +1,5 @@
--- Every segment that reading a packet gives is readable.
-use Prim.Native.Nat.{ℕ, _+_, _-_, _*_, _/_, _<_}
+-- Every flow and segment that reading a packet gives is within its fields, and the segment readable.
+use Prim.Native.Nat.{ℕ, _+_, _-_, _*_, _/_, _^_, _<_}
 use mathlib.Core.Path.{_≡_, refl, sym, _∙_}
 use mathlib.Core.Bool.{Bool, true, false}
 use mathlib.Core.List.{List}
@@ -9,25 +9,27 @@ use Rattle.choice.specs.Choice.{if_then_else_, _=ᵇ_}
 use Rattle.choice.proofs.Tests.{||-false, false-true}
 use Rattle.octets.specs.Octets.{Octets}
 use Rattle.octets.proofs.BigEndian.{bigEndian<256^n}
+use Rattle.address.specs.Address.{flowAt}
+use Rattle.address.specs.declared.Flow.{Flow}
+use Rattle.address.specs.declared.Version.{Version}
+use Rattle.address.specs.declared.Version.the-variants.{V4}
+use Rattle.address.proofs.Laws.{fits-flowAt}
 use Rattle.segment.specs.Flags.{fin, syn, rst, ack, control}
 use Rattle.segment.specs.Readable.{Readable}
 use Rattle.segment.specs.declared.Segment.{Segment}
-use Rattle.packet.specs.Header.{controlBits, headerLength}
-use Rattle.packet.specs.Read.{flowOf, segmentOf, payload, carried, afterHeader, rows9to10, readPacket}
-use Rattle.packet.specs.declared.IpRead.{IpRead}
-use Rattle.packet.specs.declared.IpRead.the-variants as ip
-use Rattle.address.specs.declared.Version.{Version}
-use Rattle.address.specs.declared.Version.the-variants.{V4, V6}
-use Rattle.packet.specs.Ignored.{packetEnd}
+use Rattle.packet.specs.Header.{controlBits, headerLength, totalLength}
+use Rattle.packet.specs.Read.{segmentOf, payload, ipv4Addresses, ipv4Header, rows9to10, onHeader, readIPv4}
+use Rattle.packet.specs.Reader.{ReaderOf}
 use Rattle.packet.specs.Tails.{row10, rows6to8}
 use Rattle.packet.specs.declared.Cause.{Cause}
 use Rattle.packet.specs.declared.FlagCheck.{FlagCheck}
 use Rattle.packet.specs.declared.FlagCheck.the-variants.{Bad, Fine}
-use Rattle.address.specs.declared.Flow.{Flow}
+use Rattle.packet.specs.declared.IpRead.{IpRead}
+use Rattle.packet.specs.declared.IpRead.the-variants as ip
 use Rattle.packet.specs.declared.PacketRead.{PacketRead}
 use Rattle.packet.specs.declared.PacketRead.the-variants.{Refused, Tcp}
 use Rattle.packet.proofs.Flags.{bit-clear}
-use Rattle.packet.proofs.Read.{carried4≡row5-then-tail, carried6≡rows, rows9to10≡row9-then-row10, afterRow10}
+use Rattle.packet.proofs.Read.{ipv4Header≡row5-then-tail, rows9to10≡row9-then-row10, afterRow10}
 
 -- What a list gives that took none of its lines
 
@@ -49,57 +51,29 @@ past-check :
 past-check read (Bad cause) e = false-true cc
 past-check read Fine e = (refl, e)
 
-past-bad-header : {h t : ℕ} {rest : IpRead} (b : Bool) (cause : Cause) → (if b then ip.Bad cause else rest) ≡ ip.Carries h t → rest ≡ ip.Carries h t
+past-bad-header :
+    {h t : ℕ} {rest : IpRead} (b : Bool) (cause : Cause) → (if b then ip.Bad cause else rest) ≡ ip.Carries h t →
+    rest ≡ ip.Carries h t
 unfolding if_then_else_
 past-bad-header true cause e = false-true cc
 past-bad-header false cause e = e
 
-same-end : (h t h' t' : ℕ) → ip.Carries h t ≡ ip.Carries h' t' → (h ≡ h') × (t ≡ t')
-same-end h t h' t' e = (cc, cc)
+carries-both : (h t j u : ℕ) → ip.Carries h t ≡ ip.Carries j u → (h ≡ j) × (t ≡ u)
+carries-both h t j u e = (cc, cc)
 
-abbrev headerEnd : Version → List ℕ → ℕ
-headerEnd V4 p = headerLength p
-headerEnd V6 p = 40
+-- The IPv4 header
 
 -- where TCP's header begins, and where the packet ends
-pub carried-end : (v : Version) (p : List ℕ) (h t : ℕ) → carried v p ≡ ip.Carries h t → (headerEnd v p ≡ h) × (packetEnd v p ≡ t)
+pub ipv4-carries : (p : List ℕ) (h t : ℕ) → ipv4Header p ≡ ip.Carries h t → (headerLength p ≡ h) × (totalLength p ≡ t)
 unfolding rows6to8
-carried-end V4 p h t e =
-    let row5 = past-bad-header _ _ (past-bad-header _ _ (past-bad-header _ _ (past-bad-header _ _ (past-bad-header _ _ (sym (carried4≡row5-then-tail p) ∙ e))))) in
-    same-end _ _ h t (past-bad-header _ _ (past-bad-header _ _ (past-bad-header _ _ row5)))
-carried-end V6 p h t e =
-    same-end _ _ h t (past-bad-header _ _ (past-bad-header _ _ (past-bad-header _ _ (past-bad-header _ _ (sym (carried6≡rows p) ∙ e)))))
+ipv4-carries p h t e =
+    let past-1 = past-bad-header _ _ (sym (ipv4Header≡row5-then-tail p) ∙ e) in
+    let past-row5 = past-bad-header _ _ (past-bad-header _ _ (past-bad-header _ _ (past-bad-header _ _ past-1))) in
+    carries-both _ _ h t (past-bad-header _ _ (past-bad-header _ _ (past-bad-header _ _ past-row5)))
 
--- at most 65,535 octets follow the IP header
-carried-span : (v : Version) (p : List ℕ) (h t : ℕ) → Octets p → carried v p ≡ ip.Carries h t → t - h < 65536
-carried-span V4 p h t octets e = omega (arith, carried-end V4 p h t e .1, bigEndian<256^n 2 p 2 octets)
-carried-span V6 p h t octets e = omega (arith, carried-end V6 p h t e .0, carried-end V6 p h t e .1, bigEndian<256^n 2 p 4 octets)
-
--- where a packet's flow and segment stand
-pub record Stands (v : Version) (p : List ℕ) (f : Flow) (g : Segment) : Type 0 where
-  pub h : ℕ
-  pub t : ℕ
-  pub carries : carried v p ≡ ip.Carries h t
-  pub fine : row10 (controlBits p h) (payload p h t) ≡ Fine
-  pub flow : f ≡ flowOf v p h
-  pub segment : g ≡ segmentOf p h t
-
-module _ (v : Version) (p : List ℕ) (f : Flow) (g : Segment) where
-  past-rows9to10 :
-      (h t : ℕ) → rows9to10 v p h t ≡ Tcp f g →
-      (row10 (controlBits p h) (payload p h t) ≡ Fine) × (Tcp (flowOf v p h) (segmentOf p h t) ≡ Tcp f g)
-  past-rows9to10 h t e =
-      past-check _ _ (past-refusal _ _ (past-refusal _ _ (past-refusal _ _ (sym (rows9to10≡row9-then-row10 v p h t) ∙ e))))
-
-  pub segment-of : readPacket v p ≡ Tcp f g → Stands v p f g
-  segment-of = go (carried v p) refl
-    where
-      go : (r : IpRead) → carried v p ≡ r → afterHeader v p r ≡ Tcp f g → Stands v p f g
-      go (ip.Bad cause) is e = false-true cc
-      go (ip.Carries h t) is e =
-          let both = past-rows9to10 h t e in
-          let same = both .1 in
-          record { h = h; t = t; carries = is; fine = both .0; flow = cc; segment = cc }
+-- at most 65,535 octets follow it
+ipv4-span : (p : List ℕ) (h t : ℕ) → Octets p → ipv4Header p ≡ ip.Carries h t → t - h < 2 ^ 16
+ipv4-span p h t octets e = omega (arith, ipv4-carries p h t e .1, bigEndian<256^n 2 p 2 octets)
 
 -- The flags
 
@@ -162,7 +136,44 @@ segmentOf-readable p h t octets small fine =
       no-syn-fin = λ s. let none = row10-no-syn-fin x n fine (syn-x s) in (fin-control x ∙ none .0, rst-control x ∙ none .1);
     }
 
-pub read-readable : (v : Version) (p : List ℕ) (f : Flow) (g : Segment) → Octets p → readPacket v p ≡ Tcp f g → Readable g
-read-readable v p f g octets e =
-    let s = segment-of v p f g e in
-    rw (s .segment) (segmentOf-readable p (s .h) (s .t) octets (carried-span v p (s .h) (s .t) octets (s .carries)) (s .fine))
+-- The reader of any version
+
+-- where a packet's flow and segment stand
+record Stands (v : Version) (addresses : ℕ) (p : List ℕ) (r : IpRead) (k : Flow) (g : Segment) : Type 0 where
+  h : ℕ
+  t : ℕ
+  carries : r ≡ ip.Carries h t
+  fine : row10 (controlBits p h) (payload p h t) ≡ Fine
+  flow : k ≡ flowAt v p addresses h
+  segment : g ≡ segmentOf p h t
+
+module _ (v : Version) (addresses : ℕ) (p : List ℕ) (k : Flow) (g : Segment) where
+  past-rows9to10 :
+      (h t : ℕ) → rows9to10 v addresses p h t ≡ Tcp k g →
+      (row10 (controlBits p h) (payload p h t) ≡ Fine) × (Tcp (flowAt v p addresses h) (segmentOf p h t) ≡ Tcp k g)
+  past-rows9to10 h t e =
+      past-check _ _ (past-refusal _ _ (past-refusal _ _ (past-refusal _ _ (sym (rows9to10≡row9-then-row10 v addresses p h t) ∙ e))))
+
+  stands : (r : IpRead) → onHeader v addresses p r ≡ Tcp k g → Stands v addresses p r k g
+  stands (ip.Bad cause) e = false-true cc
+  stands (ip.Carries h t) e =
+      let both = past-rows9to10 h t e in
+      let same = both .1 in
+      record { h = h; t = t; carries = refl; fine = both .0; flow = cc; segment = cc }
+
+-- a version's reader by its rows 5 to 8, if they let at most 65,535 octets follow the IP header
+reader-of :
+    (v : Version) (addresses : ℕ) (header : List ℕ → IpRead) →
+    ((p : List ℕ) (h t : ℕ) → Octets p → header p ≡ ip.Carries h t → t - h < 2 ^ 16) →
+    ReaderOf v (λ p. onHeader v addresses p (header p))
+reader-of v addresses header span = record {
+  flow = λ p k g octets e.
+      let s = stands v addresses p k g (header p) e in
+      rw (s .flow) (fits-flowAt v p addresses (s .h) octets);
+  segment = λ p k g octets e.
+      let s = stands v addresses p k g (header p) e in
+      rw (s .segment) (segmentOf-readable p (s .h) (s .t) octets (span p (s .h) (s .t) octets (s .carries)) (s .fine));
+}
+
+pub ipv4-reader : ReaderOf V4 readIPv4
+ipv4-reader = reader-of V4 ipv4Addresses ipv4Header ipv4-span

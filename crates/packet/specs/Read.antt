@@ -1,19 +1,18 @@
 -- What reading a packet gives: answers 5 to 10 of document 01 in its order, 14 causes told apart, or the flow and the segment.
--- p is the packet's bytes, h its header length, t its total length.
-use Prim.Native.Nat.{ℕ, _+_, _-_, _≤_, _<_}
+-- The IP version decides rows 5 to 8 and where the addresses stand; rows 9 and 10 are TCP's, and the same for every version.
+-- p is the packet's bytes, h its IP header's length, t its total length.
+use Prim.Native.Nat.{ℕ, _+_, _-_, _^_, _≤_, _<_}
 use mathlib.Core.Bool.{_&&_, _||_, not}
 use mathlib.Core.List.{List}
-use lib.ListN.{length, take, getD}
-use Rattle.octets.specs.BigEndian.{bigEndian}
+use lib.ListN.{length, take}
+use Rattle.choice.specs.Choice.{if_then_else_, _<ᵇ_, _=ᵇ_, _≠ᵇ_}
 use Rattle.address.specs.Address.{addressSize, flowAt}
 use Rattle.address.specs.declared.Version.{Version}
-use Rattle.address.specs.declared.Version.the-variants.{V4, V6}
-use Rattle.choice.specs.Choice.{if_then_else_, _<ᵇ_, _=ᵇ_, _≠ᵇ_}
+use Rattle.address.specs.declared.Version.the-variants.{V4}
 use Rattle.segment.specs.Flags.{fin, syn, rst, ack, control}
 use Rattle.segment.specs.declared.Segment.{Segment}
 use Rattle.packet.specs.Header.{version, headerLength, totalLength, moreFragments, fragmentOffset, protocol, sequenceNumber, acknowledgmentNumber, dataOffset, controlBits, window}
 use Rattle.packet.specs.Sum.{onesSum}
-use Rattle.address.specs.declared.Flow.{Flow}
 use Rattle.packet.specs.declared.Cause.{Cause}
 use Rattle.packet.specs.declared.Cause.the-variants.{Short, OtherVersion, HeaderLength, TotalBelowHeader, TotalAboveGiven, HeaderSum, Fragment, Protocol, TcpShort, OffsetBelowFive, OffsetPastTotal, SynFinRst, NoSynAckRst, SynPayload}
 use Rattle.packet.specs.declared.IpRead.{IpRead}
@@ -21,32 +20,11 @@ use Rattle.packet.specs.declared.IpRead.the-variants.{Bad, Carries}
 use Rattle.packet.specs.declared.PacketRead.{PacketRead}
 use Rattle.packet.specs.declared.PacketRead.the-variants.{Refused, Tcp}
 
--- where the addresses begin
-abbrev pub sourceAt : Version → ℕ
-sourceAt V4 = 12
-sourceAt V6 = 8
+-- Each list: the first line that applies wins
 
-abbrev pub flowOf : Version → List ℕ → ℕ → Flow
-flowOf v p h = flowAt v p (sourceAt v) h
-
--- payload octets
-abbrev pub payload : List ℕ → ℕ → ℕ → ℕ
-payload p h t = t - h - dataOffset p h
-
-abbrev pub segmentOf : List ℕ → ℕ → ℕ → Segment
-segmentOf p h t = record {
-  seq = record { 0 = sequenceNumber p h };
-  ack = record { 0 = acknowledgmentNumber p h };
-  window = record { 0 = window p h };
-  flags = control (controlBits p h);
-  octets = record { 0 = payload p h t + syn (controlBits p h) + fin (controlBits p h) };
-}
-
--- the first line that applies wins
-
--- rows 5 to 8 of an IPv4 packet
-unfoldable pub carried4 : List ℕ → IpRead
-carried4 p =
+-- IPv4: rows 5 to 8, or where TCP's header begins and where the packet ends
+unfoldable pub ipv4Header : List ℕ → IpRead
+ipv4Header p =
     let h : ℕ = headerLength p in
     let t : ℕ = totalLength p in
     -- 5: under 20 bytes; version not 4; header length under 20; total length below header length or above the bytes given
@@ -63,25 +41,28 @@ carried4 p =
     else if protocol p ≠ᵇ 6 then Bad Protocol
     else Carries h t
 
--- of an IPv6 packet
-unfoldable pub carried6 : List ℕ → IpRead
-carried6 p =
-    let t : ℕ = 40 + bigEndian 2 p 4 in
-    -- 5: under 40 bytes, version not 6, payload length past the bytes given
-    if length p <ᵇ 40 then Bad Short
-    else if version p ≠ᵇ 6 then Bad OtherVersion
-    else if length p <ᵇ t then Bad TotalAboveGiven
-    -- 8: a next header other than 6
-    else if getD p 6 0 ≠ᵇ 6 then Bad Protocol
-    else Carries 40 t
+-- where its source address begins; the destination's follows it
+abbrev pub ipv4Addresses : ℕ
+ipv4Addresses = 12
 
-abbrev pub carried : Version → List ℕ → IpRead
-carried V4 p = carried4 p
-carried V6 p = carried6 p
+-- TCP, whatever IP version carries it
 
--- rows 9 and 10, and what is read; f is the TCP flags
-unfoldable pub rows9to10 : Version → List ℕ → ℕ → ℕ → PacketRead
-rows9to10 v p h t =
+-- payload octets
+abbrev pub payload : List ℕ → ℕ → ℕ → ℕ
+payload p h t = t - h - dataOffset p h
+
+abbrev pub segmentOf : List ℕ → ℕ → ℕ → Segment
+segmentOf p h t = record {
+  seq = record { 0 = sequenceNumber p h };
+  ack = record { 0 = acknowledgmentNumber p h };
+  window = record { 0 = window p h };
+  flags = control (controlBits p h);
+  octets = record { 0 = payload p h t + syn (controlBits p h) + fin (controlBits p h) };
+}
+
+-- rows 9 and 10, or the flow, by where the version has its addresses, and the segment; f is the TCP flags
+unfoldable pub rows9to10 : Version → ℕ → List ℕ → ℕ → ℕ → PacketRead
+rows9to10 v addresses p h t =
     let f : ℕ = controlBits p h in
     -- 9: under 20 bytes follow the IP header within total length; TCP data offset under 5 words or past total length
     if t - h <ᵇ 20 then Refused TcpShort
@@ -91,19 +72,23 @@ rows9to10 v p h t =
     else if (syn f =ᵇ 1) && ((fin f =ᵇ 1) || (rst f =ᵇ 1)) then Refused SynFinRst
     else if not ((syn f =ᵇ 1) || ((ack f =ᵇ 1) || (rst f =ᵇ 1))) then Refused NoSynAckRst
     else if (syn f =ᵇ 1) && (payload p h t ≠ᵇ 0) then Refused SynPayload
-    else Tcp (flowOf v p h) (segmentOf p h t)
+    -- otherwise
+    else Tcp (flowAt v p addresses h) (segmentOf p h t)
 
-abbrev pub afterHeader : Version → List ℕ → IpRead → PacketRead
-afterHeader v p (Bad cause) = Refused cause
-afterHeader v p (Carries h t) = rows9to10 v p h t
+-- The whole: what the IP header refuses, and then what TCP's does
 
-abbrev pub readPacket : Version → List ℕ → PacketRead
-readPacket v p = afterHeader v p (carried v p)
+abbrev pub onHeader : Version → ℕ → List ℕ → IpRead → PacketRead
+onHeader v addresses p (Bad cause) = Refused cause
+onHeader v addresses p (Carries h t) = rows9to10 v addresses p h t
 
--- what is carried lies behind the addresses and in the packet
-abbrev pub Inside : Version → List ℕ → IpRead → Type 0
-Inside v p (Bad cause) = 0 ≤ 0
-Inside v p (Carries h t) = (sourceAt v + addressSize v + addressSize v ≤ h) × (h ≤ t) × (t ≤ length p) × (t < 65576)
+abbrev pub readIPv4 : List ℕ → PacketRead
+readIPv4 p = onHeader V4 ipv4Addresses p (ipv4Header p)
+
+-- what is carried lies behind the addresses and in the packet, with at most 65,535 octets after the IP header
+abbrev pub Inside : Version → ℕ → List ℕ → IpRead → Type 0
+Inside v addresses p (Bad cause) = Unit {0}
+Inside v addresses p (Carries h t) =
+    (addresses + addressSize v + addressSize v ≤ h) × (h ≤ t) × (t ≤ length p) × (t - h < 2 ^ 16)
 
 -- document 01's number of each cause
 abbrev pub causeNumber : Cause → ℕ
@@ -125,8 +110,4 @@ causeNumber SynPayload = 10
 -- of a refusal; 0 where there is none
 abbrev pub refusalNumber : PacketRead → ℕ
 refusalNumber (Refused cause) = causeNumber cause
-refusalNumber (Tcp f g) = 0
-
--- the number that a packet is refused with
-abbrev pub packetRefusal : Version → List ℕ → ℕ
-packetRefusal v p = refusalNumber (readPacket v p)
+refusalNumber (Tcp k g) = 0

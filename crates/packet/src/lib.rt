@@ -1,12 +1,13 @@
-// Reads an IPv4 packet with one TCP segment: answers 5 to 10 of document 01, or the flow and the segment.
+// Reads a packet with one TCP segment: answers 5 to 10 of document 01, or the flow and the segment. The IP version decides rows 5 to 8
+// and where the addresses stand; rows 9 and 10 are TCP's. There is a reader of IPv4.
 ghost use mathlib.Core.Path.{_≡_};
-ghost use Prim.Native.Nat.{_+_, _%_, _≤_, _<_};
+ghost use Prim.Native.Nat.{_+_, _-_, _%_, _^_, _≤_, _<_};
 ghost use lib.ListN.{length};
 ghost use Rattle.address.specs.Address.{addressSize};
 ghost use Rattle.segment.specs.Flags.{control};
 ghost use Rattle.packet.specs.Header.{dataOffset};
 ghost use Rattle.packet.specs.Sum.{onesSum, wordSum};
-ghost use Rattle.packet.specs.Read.{sourceAt, flowOf, segmentOf, carried4, carried6, carried, Inside, rows9to10, readPacket, causeNumber, refusalNumber, packetRefusal};
+ghost use Rattle.packet.specs.Read.{segmentOf, rows9to10, ipv4Addresses, ipv4Header, readIPv4, Inside, causeNumber, refusalNumber};
 ghost use Rattle.packet.specs.Tails.{row10, rows6to8};
 use address::Flow;
 use address::Version;
@@ -145,26 +146,8 @@ fn control_bits(flags: u8) -> u8
     flags % 2 + 2 * (flags / 2 % 2) + 4 * (flags / 4 % 2) + 16 * (flags / 16 % 2)
 }
 
-// Where the addresses begin.
-fn source_at(version: Version) -> usize
-    ensures { λ r. ⌜ r ≡ sourceAt version ⌝ }
-{
-    match version {
-        Version::V4 => 12,
-        Version::V6 => 8,
-    }
-}
-
-// Addresses and ports, by where TCP's header begins.
-fn flow_of(version: Version, s: &[u8], h: usize) -> Flow
-    requires { ⌜ (sourceAt version + addressSize version + addressSize version ≤ h) × (h + 20 ≤ length (now s)) ⌝ }
-    ensures { λ r. ⌜ r ≡ flowOf version (now (s .entry)) h ⌝ }
-{
-    read_flow(version, s, source_at(version), h)
-}
-
 fn read_segment(s: &[u8], h: usize, t: usize) -> Segment
-    requires { ⌜ (h + 20 ≤ t) × (t ≤ length (now s)) × (t < 65576) × (h + dataOffset (now s) h ≤ t) ⌝ }
+    requires { ⌜ (h + 20 ≤ t) × (t ≤ length (now s)) × (t - h < 2 ^ 16) × (h + dataOffset (now s) h ≤ t) ⌝ }
     ensures { λ r. ⌜ r ≡ segmentOf (now (s .entry)) h t ⌝ }
 {
     let flags = s[h + 13];
@@ -183,9 +166,10 @@ fn read_segment(s: &[u8], h: usize, t: usize) -> Segment
     }
 }
 
-fn read_tcp(version: Version, s: &[u8], h: usize, t: usize) -> PacketRead
-    requires { ⌜ (sourceAt version + addressSize version + addressSize version ≤ h) × (h ≤ t) × (t ≤ length (now s)) × (t < 65576) ⌝ }
-    ensures { λ r. ⌜ r ≡ rows9to10 version (now (s .entry)) h t ⌝ }
+// Rows 9 and 10, for the TCP header at h in a packet that ends at t, by where its IP version has the addresses.
+fn read_tcp(version: Version, addresses: usize, s: &[u8], h: usize, t: usize) -> PacketRead
+    requires { ⌜ (addresses + addressSize version + addressSize version ≤ h) × (h ≤ t) × (t ≤ length (now s)) × (t - h < 2 ^ 16) ⌝ }
+    ensures { λ r. ⌜ r ≡ rows9to10 version addresses (now (s .entry)) h t ⌝ }
 {
     if t - h < 20 {
         return PacketRead::Refused(Cause::TcpShort);
@@ -200,13 +184,17 @@ fn read_tcp(version: Version, s: &[u8], h: usize, t: usize) -> PacketRead
     let check = check_flags(s[h + 13], t - h - offset);
     match check {
         FlagCheck::Bad(cause) => PacketRead::Refused(cause),
-        FlagCheck::Fine => PacketRead::Tcp(flow_of(version, s, h), read_segment(s, h, t)),
+        FlagCheck::Fine => PacketRead::Tcp(
+            read_flow(version, s, addresses, h),
+            read_segment(s, h, t),
+        ),
     }
 }
 
-fn read_ip(s: &[u8], h: usize, t: usize) -> IpRead
-    requires { ⌜ (20 ≤ h) × (h ≤ 60) × (h % 4 ≡ 0) × (h ≤ t) × (t ≤ length (now s)) × (t < 65536) ⌝ }
-    ensures { λ r. ⌜ (r ≡ rows6to8 (now (s .entry)) h t) × Inside Version.V4 (now (s .entry)) r ⌝ }
+// Rows 6 to 8, for an IPv4 header of h bytes whose total length is t.
+fn check_ipv4_header(s: &[u8], h: usize, t: usize) -> IpRead
+    requires { ⌜ (20 ≤ h) × (h ≤ 60) × (h % 4 ≡ 0) × (h ≤ t) × (t ≤ length (now s)) × (t < 2 ^ 16) ⌝ }
+    ensures { λ r. ⌜ (r ≡ rows6to8 (now (s .entry)) h t) × Inside Version.V4 ipv4Addresses (now (s .entry)) r ⌝ }
 {
     if header_sum(&s[0..h]) != 65535 {
         return IpRead::Bad(Cause::HeaderSum);
@@ -220,9 +208,9 @@ fn read_ip(s: &[u8], h: usize, t: usize) -> IpRead
     IpRead::Carries(h, t)
 }
 
-// The header of an IPv4 packet: rows 5 to 8.
-fn header4(s: &[u8]) -> IpRead
-    ensures { λ r. ⌜ (r ≡ carried4 (now (s .entry))) × Inside Version.V4 (now (s .entry)) r ⌝ }
+// Rows 5 to 8 of an IPv4 packet.
+fn read_ipv4_header(s: &[u8]) -> IpRead
+    ensures { λ r. ⌜ (r ≡ ipv4Header (now (s .entry))) × Inside Version.V4 ipv4Addresses (now (s .entry)) r ⌝ }
 {
     if s.len() < 20 {
         return IpRead::Bad(Cause::Short);
@@ -242,45 +230,16 @@ fn header4(s: &[u8]) -> IpRead
     if s.len() < t {
         return IpRead::Bad(Cause::TotalAboveGiven);
     }
-    read_ip(s, h, t)
+    check_ipv4_header(s, h, t)
 }
 
-// The header of an IPv6 packet: a fixed header of 40 bytes, no extension headers.
-fn header6(s: &[u8]) -> IpRead
-    ensures { λ r. ⌜ (r ≡ carried6 (now (s .entry))) × Inside Version.V6 (now (s .entry)) r ⌝ }
+// Reads an IPv4 packet; bytes past its total length are ignored.
+pub fn read_ipv4(s: &[u8]) -> PacketRead
+    ensures { λ r. ⌜ (r ≡ readIPv4 (now (s .entry))) × (refusalNumber r ≡ refusalNumber (readIPv4 (now (s .entry)))) ⌝ }
 {
-    if s.len() < 40 {
-        return IpRead::Bad(Cause::Short);
-    }
-    if s[0] / 16 != 6 {
-        return IpRead::Bad(Cause::OtherVersion);
-    }
-    let n = read16(s, 4) as usize;
-    if s.len() < 40 + n {
-        return IpRead::Bad(Cause::TotalAboveGiven);
-    }
-    if s[6] != 6 {
-        return IpRead::Bad(Cause::Protocol);
-    }
-    IpRead::Carries(40, 40 + n)
-}
-
-fn header(version: Version, s: &[u8]) -> IpRead
-    ensures { λ r. ⌜ (r ≡ carried version (now (s .entry))) × Inside version (now (s .entry)) r ⌝ }
-{
-    match version {
-        Version::V4 => header4(s),
-        Version::V6 => header6(s),
-    }
-}
-
-// Reads a packet; bytes past its total length are ignored.
-pub fn read_packet(version: Version, s: &[u8]) -> PacketRead
-    ensures { λ r. ⌜ (r ≡ readPacket version (now (s .entry))) × (refusalNumber r ≡ packetRefusal version (now (s .entry))) ⌝ }
-{
-    let found = header(version, s);
-    match found {
+    let header = read_ipv4_header(s);
+    match header {
         IpRead::Bad(cause) => PacketRead::Refused(cause),
-        IpRead::Carries(h, t) => read_tcp(version, s, h, t),
+        IpRead::Carries(h, t) => read_tcp(Version::V4, 12, s, h, t),
     }
 }

@@ -2,8 +2,7 @@
 use Prim.Native.Nat.{ℕ, _+_, _*_, _/_, _%_}
 use mathlib.Core.Path.{_≡_}
 use mathlib.Core.List.{List}
-use Rattle.address.specs.declared.Version.{Version}
-use Rattle.filter.specs.Call.{outcomeOf, replyOf}
+use Rattle.filter.specs.Call.{ipv4Outcome, replyOf}
 use Rattle.filter.specs.declared.Reply.{Reply}
 
 -- answer·65,536 + place
@@ -13,6 +12,6 @@ packed r = r .answer * 65536 + r .place
 -- quotient and remainder give them back, as qb_answer and qb_place in the header take them
 abbrev pub Unpacked : Type 0
 Unpacked =
-    (v : Version) (side clock : ℕ) (t packet : List ℕ) →
-    (packed (replyOf (outcomeOf v side clock t packet)) / 65536 ≡ replyOf (outcomeOf v side clock t packet) .answer)
-    × (packed (replyOf (outcomeOf v side clock t packet)) % 65536 ≡ replyOf (outcomeOf v side clock t packet) .place)
+    (side clock : ℕ) (t packet : List ℕ) →
+    (packed (replyOf (ipv4Outcome side clock t packet)) / 65536 ≡ replyOf (ipv4Outcome side clock t packet) .answer)
+    × (packed (replyOf (ipv4Outcome side clock t packet)) % 65536 ≡ replyOf (ipv4Outcome side clock t packet) .place)

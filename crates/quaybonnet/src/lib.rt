@@ -1,7 +1,7 @@
 // The library for programs in C and Rust: include/quaybonnet.h says how each function is called.
 ghost use mathlib.Core.Path.{_≡_};
 ghost use Prim.Native.Nat.{_+_, _*_, _≤_};
-ghost use Rattle.filter.specs.Call.{outcomeOf, replyOf, tableAfter};
+ghost use Rattle.filter.specs.Call.{ipv4Outcome, replyOf, tableAfter};
 ghost use Rattle.trace.specs.Read.{packetAfterReading, reading};
 ghost use Rattle.trace.specs.Write.{lineAfterWriting, writing};
 ghost use Rattle.quaybonnet.specs.Packed.{packed};
@@ -18,9 +18,10 @@ fn pack(answer: u32, place: usize) -> u32
 // One call of the filter: answer·65,536 + place.
 #[no_mangle]
 pub extern "C" fn qb_filter(side: u8, clock: u64, table: &mut [u8], packet: &[u8]) -> u32
-    ensures { λ r. ⌜ (r ≡ packed (replyOf (outcomeOf Version.V4 side clock (now (table .entry)) (now (packet .entry))))) × (now (table .exit) ≡ tableAfter Version.V4 (now (table .entry)) (outcomeOf Version.V4 side clock (now (table .entry)) (now (packet .entry)))) ⌝ }
+    ensures { λ r. let o = ipv4Outcome side clock (now (table .entry)) (now (packet .entry)) in
+        ⌜ (r ≡ packed (replyOf o)) × (now (table .exit) ≡ tableAfter Version.V4 (now (table .entry)) o) ⌝ }
 {
-    let reply = filter::filter(Version::V4, side, clock, table, packet);
+    let reply = filter::filter_ipv4(side, clock, table, packet);
     pack(reply.answer, reply.place)
 }
 

@@ -24,7 +24,8 @@ use Rattle.report.specs.declared.Shown.the-variants.{Number, Dash}
 use Rattle.report.proofs.Text.{length-decimalText≤, length-resultText}
 use Rattle.address.specs.declared.Version.the-variants.{V4}
 use Rattle.rows.specs.Rows.{Blocked, Passed}
-use Rattle.filter.specs.Call.{Outcome, outcomeOf, replyOf, tableAfter}
+use Rattle.packet.specs.Read.{readIPv4}
+use Rattle.filter.specs.Call.{Outcome, ipv4Outcome, replyOf, tableAfter}
 use Rattle.filter.specs.declared.Reply.{Reply}
 use Rattle.filter.proofs.Fits.{Within, outcome-within, reply-small}
 use Rattle.replay.specs.Feed.{Memory, memory, withAnswer, withUsed, withResult, withLine, withTotal}
@@ -75,7 +76,7 @@ resultOf-read line t read e = ap (λ r. ofRead r line t) (sym e)
 pub resultOf-frame :
     (line t packet after : List ℕ) (side clock n : ℕ) (reply : Reply) (shown : Shown) → Frame side clock n ≡ readLine line room →
     packet ≡ packetOf line →
-    (reply ≡ replyOf (outcomeOf V4 side clock t packet)) × (after ≡ tableAfter V4 t (outcomeOf V4 side clock t packet)) →
+    (reply ≡ replyOf (ipv4Outcome side clock t packet)) × (after ≡ tableAfter V4 t (ipv4Outcome side clock t packet)) →
     shown ≡ shownPlace (reply .place) →
     _≡_ {A = Result} (record { answer = reply .answer; shown = shown; table = after }) (resultOf line t)
 resultOf-frame line t packet after side clock n reply shown whole is called place =
@@ -87,7 +88,7 @@ unfolding readAnswer
 read-never-23 line t TooLong b e = omega arith
 read-never-23 line t (Malformed offset) b e = omega arith
 read-never-23 line t NoRoom b e = b
-read-never-23 line t (Frame side clock n) b e = omega (arith, reply-small V4 side clock t (packetOf line) .0)
+read-never-23 line t (Frame side clock n) b e = omega (arith, reply-small V4 side clock t (readIPv4 (packetOf line)) .0)
 
 pub never-23 : Never23
 unfolding resultOf
@@ -134,7 +135,7 @@ unfolding readAnswer
 read-short line t TooLong b = dash-short t 21 (omega arith)
 read-short line t (Malformed offset) b = number-short t 22 offset (omega arith) (omega arith)
 read-short line t NoRoom b = absurd b
-read-short line t (Frame side clock n) b = call-short t (outcomeOf V4 side clock t (packetOf line)) (outcome-within V4 side clock t (packetOf line))
+read-short line t (Frame side clock n) b = call-short t (ipv4Outcome side clock t (packetOf line)) (outcome-within V4 side clock t (readIPv4 (packetOf line)))
 
 -- so it is for every line
 pub result-short : (line t : List ℕ) → length (resultText (resultOf line t .answer) (resultOf line t .shown)) ≤ resultRoom

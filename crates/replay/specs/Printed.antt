@@ -12,7 +12,7 @@ use Rattle.report.specs.Text.{shownPlace, resultText, totalText}
 use Rattle.report.specs.declared.Shown.{Shown}
 use Rattle.report.specs.declared.Shown.the-variants.{Number, Dash}
 use Rattle.address.specs.declared.Version.the-variants.{V4}
-use Rattle.filter.specs.Call.{Outcome, outcomeOf, replyOf, tableAfter}
+use Rattle.filter.specs.Call.{Outcome, ipv4Outcome, replyOf, tableAfter}
 
 -- Lines
 
@@ -49,7 +49,7 @@ abbrev pub ofRead : LineRead → List ℕ → List ℕ → Result
 ofRead TooLong line t = record { answer = readAnswer TooLong .number; shown = Dash; table = t }
 ofRead (Malformed offset) line t = record { answer = readAnswer (Malformed offset) .number; shown = Number offset; table = t }
 ofRead NoRoom line t = record { answer = readAnswer NoRoom .number; shown = Dash; table = t }
-ofRead (Frame side clock n) line t = ofCall t (outcomeOf V4 side clock t (packetOf line))
+ofRead (Frame side clock n) line t = ofCall t (ipv4Outcome side clock t (packetOf line))
 
 unfoldable pub resultOf : List ℕ → List ℕ → Result
 resultOf line t = ofRead (readLine line room) line t

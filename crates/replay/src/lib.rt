@@ -7,7 +7,6 @@ ghost use Rattle.report.specs.Text.{resultText};
 ghost use Rattle.replay.specs.Printed.{resultOf, passes};
 ghost use Rattle.replay.specs.Feed.{memory, withUsed, withAnswer, withLine, afterPiece, atEnd, withTotal, beforeNewline, fitting};
 ghost use Rattle.replay.specs.Written.{atStart, lineRoom, resultRoom, totalRoom};
-use address::Version;
 use octets::least;
 use report::Shown;
 use std::num::wrapping_add_u64;
@@ -139,7 +138,7 @@ fn answer_line(text: &[u8], packet: &mut Packet, table: &mut [u8]) -> Answered
             length,
         } => {
             let bytes = &packet[..];
-            let reply = filter::filter(Version::V4, side, clock, table, &bytes[0..length]);
+            let reply = filter::filter_ipv4(side, clock, table, &bytes[0..length]);
             Answered {
                 answer: reply.answer,
                 shown: report::shown_place(reply.place),

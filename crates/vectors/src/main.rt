@@ -13,7 +13,6 @@
 // where HEX and TEXT are all NNNNN bytes, each '.' before, or '-' where there are none.
 ghost use Prim.Native.Nat.{_≤_, _<_};
 use address::Flow;
-use address::Version;
 use libc::STDOUT_FILENO;
 use packet::PacketRead;
 use script::Chunk;
@@ -143,7 +142,7 @@ fn read_packet(bytes: &[u8], out: &mut Output, used: usize) -> usize
     requires { ⌜ used ≤ 65536 ⌝ }
     ensures { λ r. ⌜ r ≤ 65536 ⌝ }
 {
-    let read = packet::read_packet(Version::V4, bytes);
+    let read = packet::read_ipv4(bytes);
     match read {
         PacketRead::Refused(cause) => script::put_decimal(out, used, cause.number() as u64),
         PacketRead::Tcp(flow, segment) => put_segment(out, used, flow, segment),

@@ -1,3 +1,4 @@
+-- Row 9 by its tests, row 10 by what was found of the flags.
 use Prim.Native.Nat.{_+_}
 use mathlib.Core.Path.{sym, _∙_}
 use native.Mathlib.Omega.{arith}
@@ -60,8 +61,8 @@ enum-known-check c = search needs
 enum-told : tie.Need-enum-told
 enum-told c = search needs
 
-flow-of-requires : tie.Need-flow-of-requires
-flow-of-requires c κs = search needs
+read-flow-requires : tie.Need-read-flow-requires
+read-flow-requires c κs = search needs
 
 read-segment-requires : tie.Need-read-segment-requires
 read-segment-requires c κs = search needs
@@ -71,7 +72,7 @@ returns-4 c =
     let k = c .before .before .before in
     let m = k .before .before in
     let a = m .before .before .before .before .before .args in
-    sym (refused-row10 (a .version) (a .s .now) (a .h) (a .t) (m .before .before .before .if1 .left) (m .before .if2 .left) (m .if3 .left) _
+    sym (refused-row10 (a .version) (a .addresses) (a .s .now) (a .h) (a .t) (m .before .before .before .if1 .left) (m .before .if2 .left) (m .if3 .left) _
     (sym (k .check-flags .ensures) ∙ c .before .check .given .1))
 
 returns-5 : tie.Need-returns-5
@@ -79,8 +80,8 @@ returns-5 c =
     let k = c .before .before .before .before in
     let m = k .before .before in
     let a = m .before .before .before .before .before .args in
-    (λ i. Tcp (c .before .flow-of .ensures i) (c .read-segment .ensures i))
-    ∙ sym (past-row10 (a .version) (a .s .now) (a .h) (a .t) (m .before .before .before .if1 .left) (m .before .if2 .left) (m .if3 .left)
+    (λ i. Tcp (c .before .read-flow .ensures i) (c .read-segment .ensures i))
+    ∙ sym (past-row10 (a .version) (a .addresses) (a .s .now) (a .h) (a .t) (m .before .before .before .if1 .left) (m .before .if2 .left) (m .if3 .left)
     (sym (k .check-flags .ensures) ∙ c .before .before .enum-told .given .1))
 
 pub read-tcp-spec : {M : Type 1} → statement M
@@ -103,7 +104,7 @@ read-tcp-spec =
     check-flags-requires
     enum-known-check
     enum-told
-    flow-of-requires
+    read-flow-requires
     read-segment-requires
     returns-4
     returns-5)

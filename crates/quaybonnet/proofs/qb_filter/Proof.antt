@@ -1,24 +1,25 @@
 use mathlib.Core.Path.{ap, _∙_}
 use borrow.Author.Needs.{needs}
 use Rattle.address.specs.declared.Version.the-variants.{V4}
+use Rattle.packet.specs.Read.{readIPv4}
 use Rattle.filter.proofs.Fits.{reply-small}
 use Rattle.quaybonnet.specs.Packed.{packed}
 use Rattle.quaybonnet.proofs.qb_filter.Statement.{statement}
 use Rattle.quaybonnet.proofs.qb_filter.Tie as tie
 
-filter-requires : tie.Need-filter-requires
-filter-requires c κs = search needs
+filter-ipv4-requires : tie.Need-filter-ipv4-requires
+filter-ipv4-requires c κs = search needs
 
 pack-requires : tie.Need-pack-requires
 pack-requires c κs =
     let a = c .before .before .before .before .before .before .args in
-    rw (c .before .before .filter .ensures .0) (reply-small V4 (a .side) (a .clock) (a .table .now) (a .packet .now))
+    rw (c .before .before .filter-ipv4 .ensures .0) (reply-small V4 (a .side) (a .clock) (a .table .now) (readIPv4 (a .packet .now)))
 
 same-length : tie.Need-same-length
 same-length c = search needs
 
 returns : tie.Need-returns
-returns c = (c .pack .ensures ∙ ap packed (c .before .before .before .filter .ensures .0), c .before .before .before .filter .ensures .1)
+returns c = (c .pack .ensures ∙ ap packed (c .before .before .before .filter-ipv4 .ensures .0), c .before .before .before .filter-ipv4 .ensures .1)
 
 pub qb-filter-spec : {M : Type 1} → statement M
-qb-filter-spec = tie.close (tie.spec filter-requires pack-requires same-length returns)
+qb-filter-spec = tie.close (tie.spec filter-ipv4-requires pack-requires same-length returns)

@@ -44,17 +44,17 @@ enum-told-2 c = search needs
 enum-known-read-2 : tie.Need-enum-known-read-2
 enum-known-read-2 c = search needs
 
-sub-filter : tie.Need-sub-filter
-sub-filter c = search needs
+sub-filter-ipv4 : tie.Need-sub-filter-ipv4
+sub-filter-ipv4 c = search needs
 
-part-filter-start : tie.Need-part-filter-start
-part-filter-start c = search needs
+part-filter-ipv4-start : tie.Need-part-filter-ipv4-start
+part-filter-ipv4-start c = search needs
 
-part-filter-end : tie.Need-part-filter-end
-part-filter-end c = omega (arith, framed (c .before .before .before .before) .0)
+part-filter-ipv4-end : tie.Need-part-filter-ipv4-end
+part-filter-ipv4-end c = omega (arith, framed (c .before .before .before .before) .0)
 
-filter-requires : tie.Need-filter-requires
-filter-requires c κs = search needs
+filter-ipv4-requires : tie.Need-filter-ipv4-requires
+filter-ipv4-requires c κs = search needs
 
 shown-place-requires : tie.Need-shown-place-requires
 shown-place-requires c κs = search needs
@@ -79,7 +79,7 @@ returns-4 c =
     let call = c .before .before .before in
     let read = call .before .before .before .before .before .before in
     let a = read .before .before .before .before .before .before .args in
-    resultOf-frame (a .text .now) (a .table .now) _ _ _ _ _ _ _ (sym (read .read2 .given .1) ∙ read-as (read .before .before)) (framed read .1) (call .filter .ensures) (c .shown-place .ensures)
+    resultOf-frame (a .text .now) (a .table .now) _ _ _ _ _ _ _ (sym (read .read2 .given .1) ∙ read-as (read .before .before)) (framed read .1) (call .filter-ipv4 .ensures) (c .shown-place .ensures)
 
 pub answer-line-spec : {M : Type 1} → statement M
 answer-line-spec =
@@ -90,10 +90,10 @@ answer-line-spec =
     enum-known-read
     enum-told-2
     enum-known-read-2
-    sub-filter
-    part-filter-start
-    part-filter-end
-    filter-requires
+    sub-filter-ipv4
+    part-filter-ipv4-start
+    part-filter-ipv4-end
+    filter-ipv4-requires
     shown-place-requires
     returns
     returns-2

@@ -1,0 +1,56 @@
+use Prim.Native.Nat.{ℕ}
+use mathlib.Core.Path.{sym, ap, _∙_}
+use Rattle.packet.specs.declared.PacketRead.{PacketRead}
+use Rattle.rows.specs.Rows.{Blocked, onSegment}
+use Rattle.rows.specs.Connections.{connections}
+use Rattle.table.specs.Table.{viewOf}
+use Rattle.filter.specs.Call.{Outcome, rows5to10}
+use Rattle.filter.specs.Decision.{decisionOf}
+use borrow.Author.Needs.{needs}
+use Rattle.filter.proofs.on_read.Statement.{statement}
+use Rattle.filter.proofs.on_read.Tie as tie
+
+-- what a reading comes to
+abbrev comes : tie.Start → PacketRead → Outcome
+comes s r =
+    let a = s .args in
+    rows5to10 Blocked r (onSegment connections (viewOf (a .version) (a .table .now) (a .places)) (a .clock) (a .side))
+
+enum-known-read : tie.Need-enum-known-read
+enum-known-read c = search needs
+
+number-requires : tie.Need-number-requires
+number-requires c κs = search needs
+
+blocked-requires : tie.Need-blocked-requires
+blocked-requires c κs = search needs
+
+enum-known-read-2 : tie.Need-enum-known-read-2
+enum-known-read-2 c = search needs
+
+on-segment-requires : tie.Need-on-segment-requires
+on-segment-requires c κs = search needs
+
+returns : tie.Need-returns
+returns c =
+    let k = c .before .before .before in
+    c .blocked .ensures
+    ∙ ap (λ (n : ℕ). decisionOf (Blocked n)) (c .before .number .ensures)
+    ∙ ap (λ (r : PacketRead). decisionOf (comes (k .before .before .before) r)) (sym (k .read .given .1))
+
+returns-2 : tie.Need-returns-2
+returns-2 c =
+    let k = c .before .before in
+    c .on-segment .ensures ∙ ap (λ (r : PacketRead). decisionOf (comes (k .before .before .before) r)) (sym (k .read2 .given .1))
+
+pub on-read-spec : {M : Type 1} → statement M
+on-read-spec =
+    tie.close
+    (tie.spec
+    enum-known-read
+    number-requires
+    blocked-requires
+    enum-known-read-2
+    on-segment-requires
+    returns
+    returns-2)

@@ -1,0 +1,89 @@
+-- Rows 6 to 8, each by the fact that its test asks for.
+use Prim.Native.Nat.{ℕ, _%_}
+use mathlib.Core.Path.{_≡_, sym, ap, _∙_}
+use native.Mathlib.Nat.{sub-zero}
+use native.Mathlib.Omega.{arith}
+use lib.ListN.{take}
+use Rattle.octets.specs.BigEndian.{bigEndian}
+use Rattle.packet.specs.Sum.{onesSum}
+use Rattle.packet.proofs.Read.{refused-row6, refused-row7, refused-row8, past-row8}
+use borrow.Author.Needs.{needs}
+use Rattle.packet.proofs.check_ipv4_header.Statement.{statement}
+use Rattle.packet.proofs.check_ipv4_header.Tie as tie
+
+-- the part that was summed is the header
+summed :
+    (c : tie.After-header-sum) →
+    c .header-sum .result ≡ onesSum (take (c .before .before .before .args .h) (c .before .before .before .args .s .now))
+summed c =
+    let a = c .before .before .before .args in
+    c .header-sum .ensures ∙ ap (λ (k : ℕ). onesSum (take k (a .s .now))) (sub-zero (a .h))
+
+-- what was read is the fragment word
+fragment :
+    (c : tie.After-read16) →
+    c .read16 .result % 16384 ≡ bigEndian 2 (c .before .before .before .before .before .args .s .now) 6 % 16384
+fragment c = ap (λ (w : ℕ). w % 16384) (c .read16 .ensures)
+
+sub-header-sum : tie.Need-sub-header-sum
+sub-header-sum c = search needs
+
+part-header-sum-start : tie.Need-part-header-sum-start
+part-header-sum-start c = search needs
+
+part-header-sum-end : tie.Need-part-header-sum-end
+part-header-sum-end c = search needs
+
+header-sum-requires : tie.Need-header-sum-requires
+header-sum-requires c κs = search needs
+
+returns : tie.Need-returns
+returns c =
+    let a = c .before .before .before .before .args in
+    (sym (refused-row6 (a .s .now) (a .h) (a .t) (λ e. c .if1 .taken (summed (c .before) ∙ e))), tt)
+
+read16-requires : tie.Need-read16-requires
+read16-requires c κs = search needs
+
+returns-2 : tie.Need-returns-2
+returns-2 c =
+    let k = c .before .before in
+    let a = k .before .before .before .before .args in
+    let right = sym (summed (k .before)) ∙ k .if1 .left in
+    (sym (refused-row7 (a .s .now) (a .h) (a .t) right (λ e. c .if2 .taken (fragment (c .before) ∙ e))), tt)
+
+shared-slice-read-if3 : tie.Need-shared-slice-read-if3
+shared-slice-read-if3 c = search needs
+
+returns-3 : tie.Need-returns-3
+returns-3 c =
+    let m = c .before .before in
+    let k = m .before .before in
+    let a = k .before .before .before .before .args in
+    let right = sym (summed (k .before)) ∙ k .if1 .left in
+    let whole = sym (fragment (m .before)) ∙ m .if2 .left in
+    (sym (refused-row8 (a .s .now) (a .h) (a .t) right whole (c .if3 .taken)), tt)
+
+returns-4 : tie.Need-returns-4
+returns-4 c =
+    let m = c .before .before in
+    let k = m .before .before in
+    let a = k .before .before .before .before .args in
+    let right = sym (summed (k .before)) ∙ k .if1 .left in
+    let whole = sym (fragment (m .before)) ∙ m .if2 .left in
+    (sym (past-row8 (a .s .now) (a .h) (a .t) right whole (c .if3 .left)), (omega arith, omega arith, omega arith, omega arith))
+
+pub check-ipv4-header-spec : {M : Type 1} → statement M
+check-ipv4-header-spec =
+    tie.close
+    (tie.spec
+    sub-header-sum
+    part-header-sum-start
+    part-header-sum-end
+    header-sum-requires
+    returns
+    read16-requires
+    returns-2
+    shared-slice-read-if3
+    returns-3
+    returns-4)
