@@ -1,13 +1,13 @@
--- Rows 1 to 4, each by the fact that its test asks for.
-use Prim.Native.Nat.{ℕ, _+_, _*_, _-_, _%_, _^_, _≤_, _<_, max}
-use mathlib.Core.Path.{_≡_, ap, _∙_}
-use mathlib.Core.Bool.{true, false, not}
+-- Rows 1 to 4: legal lengths and the places of a table, and the list by the number that it refuses with.
+use Prim.Native.Nat.{ℕ, suc, _+_, _*_, _-_, _%_, _^_, _≤_, _<_, max}
+use mathlib.Core.Path.{_≡_, refl, sym, _∙_}
+use mathlib.Core.Bool.{Bool, true, false, not}
 use mathlib.Core.List.{List}
 use native.Mathlib.Omega.{arith}
 use lib.ListN.{length}
-use borrow.Author.Tests.{le-leb, lt-leb, eq-eqb, eqb-true}
-use Rattle.choice.specs.Choice.{_=ᵇ_}
-use Rattle.choice.proofs.Choice.{if-true, if-false, if-≤, if-≤-not}
+use borrow.Author.Tests.{le-leb, leb-true, leb-false, eq-eqb, eqb-true, not-false}
+use Rattle.choice.specs.Choice.{if_then_else_, _≤ᵇ_, _=ᵇ_}
+use Rattle.choice.proofs.Choice.{if-true, if-false, if-ap, if-else, if-=, if-=-not}
 use Rattle.choice.proofs.Tests.{&&-true, between-true}
 use Rattle.address.specs.declared.Version.{Version}
 use Rattle.address.specs.declared.Version.the-variants.{V4, V6}
@@ -18,7 +18,8 @@ use Rattle.entry.specs.Layout.{headerSize, entrySize, placeAt}
 use Rattle.table.specs.Table.{headerClock, soundHeader, soundTable}
 use Rattle.table.proofs.Words.{header-clock-under}
 use Rattle.filter.specs.Length.{legalLength, placesFor}
-use Rattle.filter.specs.Call.{placesIn, tableOf, rows5to10, outcomeOf}
+use Rattle.filter.specs.Call.{Outcome, placesIn, tableOf, rows1to4, rows5to10, outcomeOf}
+use Rattle.filter.specs.Decision.{tableRefusal}
 
 pub legal-length-bounds : (v : Version) (n : ℕ) → legalLength v n ≡ true → (placeAt v 1 ≤ n) × (n ≤ placeAt v 512)
 unfolding legalLength
@@ -80,30 +81,71 @@ pub sound-table-clock : (v : Version) (t : List ℕ) (n : ℕ) → soundTable v 
 unfolding soundTable
 sound-table-clock v t n e = header-clock-under v t (&&-true (soundHeader v t) _ e .0)
 
--- rows 1 to 4, and what comes after them
-module _ (v : Version) (side clock : ℕ) (t : List ℕ) (read : PacketRead) where
-  pub row-1 : 1 < side → outcomeOf v side clock t read ≡ Blocked 1
-  unfolding outcomeOf
-  row-1 h = if-true _ _ _ (ap not (lt-leb side 1 h))
+-- Rows 1 to 4
 
-  module _ (h1 : side ≤ 1) where
-    pub row-2 : 2 ^ 48 ≤ clock → outcomeOf v side clock t read ≡ Blocked 2
-    unfolding outcomeOf
-    row-2 h = if-false _ _ _ (ap not (le-leb side 1 h1)) ∙ if-≤ _ _ h
+-- the list by its number, whatever it gives
+by-number :
+    {A : Type 0} (refuse : ℕ → A) (side clock : ℕ) (legal sound : Bool) (next : A) →
+    let n = rows1to4 (λ m. m) side clock legal sound 0 in
+    rows1to4 refuse side clock legal sound next ≡ (if n =ᵇ 0 then next else refuse n)
+by-number {A} refuse side clock legal sound next =
+    let f : ℕ → A = λ n. if n =ᵇ 0 then next else refuse n in
+    let row : (n : ℕ) → refuse (suc n) ≡ f (suc n) = λ n. sym (if-=-not _ _ (λ (e : suc n ≡ 0). omega (arith, e))) in
+    let last : next ≡ f 0 = sym (if-true (0 =ᵇ 0) next (refuse 0) refl) in
+    (λ i. if not (side ≤ᵇ 1) then row 0 i
+    else if 2 ^ 48 ≤ᵇ clock then row 1 i
+    else if not legal then row 2 i
+    else if not sound then row 3 i
+    else last i)
+    ∙ sym (if-ap f _ _ _ ∙ if-else _ _ (if-ap f _ _ _ ∙ if-else _ _ (if-ap f _ _ _ ∙ if-else _ _ (if-ap f _ _ _))))
 
-    module _ (h2 : clock < 2 ^ 48) where
-      pub row-3 : not (legalLength v (length t)) ≡ true → outcomeOf v side clock t read ≡ Blocked 3
-      unfolding outcomeOf
-      row-3 h = if-false _ _ _ (ap not (le-leb side 1 h1)) ∙ if-≤-not _ _ h2 ∙ if-true _ _ _ h
+-- it is 0 only if no line was taken
+past-line : (b : Bool) (n : ℕ) {m : ℕ} → (if b then suc n else m) ≡ 0 → (b ≡ false) × (m ≡ 0)
+unfolding if_then_else_
+past-line true n e = absurd (omega (arith, e))
+past-line false n e = (refl, e)
 
-      module _ (h3 : not (legalLength v (length t)) ≡ false) where
-        pub row-4 : not (soundTable v t (placesIn v t)) ≡ true → outcomeOf v side clock t read ≡ Blocked 4
-        unfolding outcomeOf
-        row-4 h = if-false _ _ _ (ap not (le-leb side 1 h1)) ∙ if-≤-not _ _ h2 ∙ if-false _ _ _ h3 ∙ if-true _ _ _ h
+-- what rows 1 to 4 don't refuse
+pub record NotRefused (v : Version) (side clock : ℕ) (t : List ℕ) : Type 0 where
+  pub side-known : side ≤ 1
+  pub clock-small : clock < 2 ^ 48
+  pub legal : legalLength v (length t) ≡ true
+  pub sound : soundTable v t (placesIn v t) ≡ true
 
-        pub past-row-4 :
-            not (soundTable v t (placesIn v t)) ≡ false →
-            outcomeOf v side clock t read
-            ≡ rows5to10 Blocked read (onSegment connections (tableOf v t) (max clock (headerClock t)) side)
-        unfolding outcomeOf
-        past-row-4 h = if-false _ _ _ (ap not (le-leb side 1 h1)) ∙ if-≤-not _ _ h2 ∙ if-false _ _ _ h3 ∙ if-false _ _ _ h
+module _ (v : Version) (side clock : ℕ) (t : List ℕ) where
+  -- rows 5 to 15 and 0
+  abbrev after : PacketRead → Outcome
+  after read = rows5to10 Blocked read (onSegment connections (tableOf v t) (max clock (headerClock t)) side)
+
+  by-refusal :
+      (read : PacketRead) →
+      outcomeOf v side clock t read
+      ≡ (if tableRefusal v side clock t =ᵇ 0 then after read else Blocked (tableRefusal v side clock t))
+  unfolding outcomeOf tableRefusal
+  by-refusal read = by-number Blocked side clock (legalLength v (length t)) (soundTable v t (placesIn v t)) (after read)
+
+  pub refused-by-number :
+      (read : PacketRead) → (tableRefusal v side clock t ≡ 0 → ⊥) →
+      outcomeOf v side clock t read ≡ Blocked (tableRefusal v side clock t)
+  refused-by-number read some = by-refusal read ∙ if-=-not _ _ some
+
+  module _ (none : tableRefusal v side clock t ≡ 0) where
+    pub past-row-4 :
+        (read : PacketRead) →
+        outcomeOf v side clock t read
+        ≡ rows5to10 Blocked read (onSegment connections (tableOf v t) (max clock (headerClock t)) side)
+    past-row-4 read = by-refusal read ∙ if-= _ _ none
+
+    pub not-refused : NotRefused v side clock t
+    unfolding tableRefusal
+    not-refused =
+        let row1 = past-line _ 0 none in
+        let row2 = past-line _ 1 (row1 .1) in
+        let row3 = past-line _ 2 (row2 .1) in
+        let row4 = past-line _ 3 (row3 .1) in
+        record {
+          side-known = leb-true _ _ (not-false _ (row1 .0));
+          clock-small = leb-false _ _ (row2 .0);
+          legal = not-false _ (row3 .0);
+          sound = not-false _ (row4 .0);
+        }

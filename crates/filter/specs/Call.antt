@@ -36,17 +36,12 @@ placesIn v t = placesFor v (length t)
 abbrev pub tableOf : Version → List ℕ → View connections
 tableOf v t = viewOf v t (placesIn v t)
 
--- The list, top to bottom: the first line that applies wins. Rows 1 to 10 are said here once, whatever a refusal gives, over whether the
--- table's length is legal and its bytes are sound; `next` is what follows them
+-- The list, top to bottom: the first line that applies wins. Each row is said once, whatever a refusal gives and whatever `next` follows
 
 module _ {A : Type 0} (refuse : ℕ → A) where
-  -- 5 to 10: as the reader has it
-  abbrev pub rows5to10 : PacketRead → (Flow → Segment → A) → A
-  rows5to10 (Refused cause) next = refuse (causeNumber cause)
-  rows5to10 (Tcp k g) next = next k g
-
-  abbrev pub rows1to10 : ℕ → ℕ → Bool → Bool → PacketRead → (Flow → Segment → A) → A
-  rows1to10 side clock legal sound read next =
+  -- over whether the table's length is legal and its bytes are sound
+  abbrev pub rows1to4 : ℕ → ℕ → Bool → Bool → A → A
+  rows1to4 side clock legal sound next =
       -- 1: side is not 0 or 1
       if not (side ≤ᵇ 1) then refuse 1
       -- 2: clock is 2^48 ms or more
@@ -55,18 +50,23 @@ module _ {A : Type 0} (refuse : ℕ → A) where
       else if not legal then refuse 3
       -- 4: table is unsound
       else if not sound then refuse 4
-      -- 5 to 10
-      else rows5to10 read next
+      else next
+
+  -- 5 to 10, as the version's reader has them
+  abbrev pub rows5to10 : PacketRead → (Flow → Segment → A) → A
+  rows5to10 (Refused cause) next = refuse (causeNumber cause)
+  rows5to10 (Tcp k g) next = next k g
 
 -- a packet's flow and segment, with its side and clock, as rows 11 to 15 and 0 are asked
 abbrev pub askOf : ℕ → ℕ → Flow → Segment → Ask
 askOf side clock k g = record { side = side; clock = clock; key = k; segment = g }
 
--- 11 to 15 and 0: `rows.filter`, by the clock used
+-- 11 to 15 and 0 are `rows`'
 unfoldable pub outcomeOf : Version → ℕ → ℕ → List ℕ → PacketRead → Outcome
 outcomeOf v side clock t read =
-    rows1to10 Blocked side clock (legalLength v (length t)) (soundTable v t (placesIn v t)) read
-    (λ k g. rows.filter connections (tableOf v t) (askOf side clock k g))
+    rows1to4 Blocked side clock (legalLength v (length t)) (soundTable v t (placesIn v t))
+    (rows5to10 Blocked read
+    (λ k g. rows.filter connections (tableOf v t) (askOf side clock k g)))
 
 -- the IPv4 filter
 abbrev pub ipv4Outcome : ℕ → ℕ → List ℕ → List ℕ → Outcome

@@ -1,16 +1,22 @@
--- Outcomes as the code holds them; `outcomeOf` is the definition.
+-- Outcomes as the code holds them, and rows 1 to 4 by themselves; `outcomeOf` is the definition.
 use Prim.Native.Nat.{ℕ, _+_, _≤_}
 use mathlib.Core.Path.{_≡_}
 use mathlib.Core.List.{List}
 use lib.ListN.{length}
 use Rattle.choice.specs.Choice.{if_then_else_, _=ᵇ_}
 use Rattle.address.specs.declared.Version.{Version}
-use Rattle.entry.specs.Layout.{entrySize, placeAt}
-use Rattle.entry.specs.Viewed.{stored}
 use Rattle.rows.specs.Rows.{Blocked, Passed, freeEntry, nowhere}
 use Rattle.rows.specs.Connections.{connections}
-use Rattle.filter.specs.Call.{Outcome, withEntry}
+use Rattle.entry.specs.Layout.{entrySize, placeAt}
+use Rattle.entry.specs.Viewed.{stored}
+use Rattle.table.specs.Table.{soundTable}
+use Rattle.filter.specs.Length.{legalLength}
+use Rattle.filter.specs.Call.{Outcome, placesIn, rows1to4, withEntry}
 use Rattle.filter.specs.declared.Decision.{Decision}
+
+-- the number that rows 1 to 4 refuse with; 0 where they don't
+unfoldable pub tableRefusal : Version → ℕ → ℕ → List ℕ → ℕ
+tableRefusal v side clock t = rows1to4 (λ n. n) side clock (legalLength v (length t)) (soundTable v t (placesIn v t)) 0
 
 abbrev pub decisionOf : Outcome → Decision
 decisionOf (Blocked n) = record { answer = n; place = nowhere; clock = 0; entry = stored (freeEntry connections) }

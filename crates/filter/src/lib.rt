@@ -9,7 +9,7 @@ ghost use Rattle.rows.specs.Connections.{connections};
 ghost use Rattle.table.specs.Table.{headerClock, viewOf};
 ghost use Rattle.filter.specs.Length.{legalLength, placesFor};
 ghost use Rattle.filter.specs.Call.{rows5to10, outcomeOf, ipv4Outcome, replyOf, tableAfter};
-ghost use Rattle.filter.specs.Decision.{decisionOf, written, Fits};
+ghost use Rattle.filter.specs.Decision.{tableRefusal, decisionOf, written, Fits};
 use address::Address;
 use address::Endpoint;
 use address::Flow;
@@ -275,29 +275,44 @@ fn on_read(
     }
 }
 
-// Rows 1 to 4, then what was read: the first line that applies wins.
-fn decide(version: Version, side: u8, clock: u64, table: &[u8], read: PacketRead) -> Decision
-    ensures { λ r. ⌜ r ≡ decisionOf (outcomeOf version side clock (now (table .entry)) read) ⌝ }
+// Rows 1 to 4: the number of the first that applies, or 0.
+fn table_refusal(version: Version, side: u8, clock: u64, table: &[u8]) -> u32
+    ensures { λ r. ⌜ r ≡ tableRefusal version side clock (now (table .entry)) ⌝ }
 {
     if 1 < side {
-        return blocked(1);
+        return 1;
     }
     if 281_474_976_710_656 <= clock {
-        return blocked(2);
+        return 2;
     }
     if !legal_length(version, table.len()) {
-        return blocked(3);
+        return 3;
     }
+    if !sound(version, table, places_for(version, table.len())) {
+        return 4;
+    }
+    0
+}
+
+// What a call comes to that rows 1 to 4 don't refuse.
+fn decide(version: Version, side: u8, clock: u64, table: &[u8], read: PacketRead) -> Decision
+    requires { ⌜ tableRefusal version side clock (now table) ≡ 0 ⌝ }
+    ensures { λ r. ⌜ r ≡ decisionOf (outcomeOf version side clock (now (table .entry)) read) ⌝ }
+{
     let places = places_for(version, table.len());
-    if !sound(version, table, places) {
-        return blocked(4);
-    }
     let used = clock_used(table, clock);
     on_read(version, table, places, used, side, read)
 }
 
-// One call, by what the version's reader gives of the packet: the answer and the place, and the table that it leaves.
-pub fn filter(version: Version, side: u8, clock: u64, table: &mut [u8], read: PacketRead) -> Reply
+// The answer and the place of such a call, and the table that it leaves.
+fn on_sound_table(
+    version: Version,
+    side: u8,
+    clock: u64,
+    table: &mut [u8],
+    read: PacketRead,
+) -> Reply
+    requires { ⌜ tableRefusal version side clock (now table) ≡ 0 ⌝ }
     ensures { λ r. let o = outcomeOf version side clock (now (table .entry)) read in
         ⌜ (r ≡ replyOf o) × (now (table .exit) ≡ tableAfter version (now (table .entry)) o) ⌝ }
 {
@@ -309,11 +324,18 @@ pub fn filter(version: Version, side: u8, clock: u64, table: &mut [u8], read: Pa
     }
 }
 
-// The IPv4 filter.
+// One call of the IPv4 filter: the answer and the place, and the table that it leaves. The packet is read after the table was scanned, as the
+// scan would be slower with what was read waiting.
 pub fn filter_ipv4(side: u8, clock: u64, table: &mut [u8], packet: &[u8]) -> Reply
     ensures { λ r. let o = ipv4Outcome side clock (now (table .entry)) (now (packet .entry)) in
         ⌜ (r ≡ replyOf o) × (now (table .exit) ≡ tableAfter Version.V4 (now (table .entry)) o) ⌝ }
 {
-    let read = read_ipv4(packet);
-    filter(Version::V4, side, clock, table, read)
+    let refused = table_refusal(Version::V4, side, clock, table);
+    if refused != 0 {
+        return Reply {
+            answer: refused,
+            place: 65535,
+        };
+    }
+    on_sound_table(Version::V4, side, clock, table, read_ipv4(packet))
 }

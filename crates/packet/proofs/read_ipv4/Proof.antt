@@ -19,7 +19,8 @@ enum-known-header-2 c = search needs
 read-tcp-requires : tie.Need-read-tcp-requires
 read-tcp-requires c κs =
     let k = c .before .before .before in
-    subst (Inside V4 ipv4Addresses (k .before .before .args .s .now)) (c .before .header2 .given .1) (k .read-ipv4-header .ensures .1)
+    let inside = subst (Inside V4 ipv4Addresses (k .before .before .args .s .now)) (c .before .header2 .given .1) (k .read-ipv4-header .ensures .1) in
+    (omega (arith, inside .0), inside .1, inside .2, inside .3)
 
 returns : tie.Need-returns
 returns c =
