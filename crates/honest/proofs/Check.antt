@@ -176,10 +176,10 @@ module _ (t₀ : View connections) (P : Pair) where
   -- refused, or passed elsewhere, or once the connection has expired, or before it was opened
   abbrev elsewhere : (q : ViewCall) (L : Seen) → Test (FairCall M t₀ P other q L)
   elsewhere q L =
-      so (λ h opened-t live passed-t same.
-      ⊎-elim (λ f. false-true (sym f ∙ opened-t))
-      (⊎-elim (λ f. false-true (sym f ∙ lt-ltb _ _ live))
-      (⊎-elim (λ f. false-true (sym f ∙ passed-t)) (λ f. false-true (sym f ∙ eq-eqb _ _ same)))) h)
+      so (λ h on-ours.
+      ⊎-elim (λ f. false-true (sym f ∙ on-ours .after-opening))
+      (⊎-elim (λ f. false-true (sym f ∙ lt-ltb _ _ (on-ours .live)))
+      (⊎-elim (λ f. false-true (sym f ∙ on-ours .answered-0)) (λ f. false-true (sym f ∙ eq-eqb _ _ (on-ours .place))))) h)
       (either (isFalse (told M t₀ L .opened)) (either (isFalse (isLive q L .holds)) (either (isFalse (passes M (told M t₀ L) q)) (isFalse (said M t₀ L q .place =ᵇ told M t₀ L .place)))))
 
   abbrev fairCall : (l : Label) (q : ViewCall) (L : Seen) → Test (FairCall M t₀ P l q L)

@@ -68,9 +68,9 @@ module _ (M : Machine) (Sound : M .State → Type 0) (keeps : KeepsTo M Sound) (
     abbrev LiveNow : Type 0
     LiveNow = max (clockIn (M .reads q)) (t .passClock) < t .until
 
-    -- then the call is not passed on the opening's entry
+    -- then a call that asks is not passed on the opening's entry
     abbrev Elsewhere : Type 0
-    Elsewhere = t .opened ≡ true → LiveNow → passes M t q ≡ true → M .run (t .state) q .place ≡ t .place → ⊥
+    Elsewhere = (a : Ask) → M .reads q ≡ asks a → t .opened ≡ true → LiveNow → passes M t q ≡ true → M .run (t .state) q .place ≡ t .place → ⊥
 
     -- a call that does not pass leaves the table as it was
     blocked-same : passes M t q ≡ false → M .view (M .run (t .state) q .next) ≡ M .view (t .state)
@@ -136,6 +136,10 @@ module _ (M : Machine) (Sound : M .State → Type 0) (keeps : KeepsTo M Sound) (
     clocks-rise : t .passClock ≤ nextClock M t q
     clocks-rise = if-either (λ n. t .passClock ≤ n) _ _ _ (omega arith) (omega arith)
 
+    -- a call on another part of the table does not move the pass clock
+    apart-clock : M .reads q ≡ apart → nextClock M t q ≡ t .passClock
+    apart-clock is = let given = ap clockIn is in if-either (λ n. n ≡ t .passClock) _ _ _ (omega arith) refl
+
     -- a connection that is live as told is live by its deadline
     live-now :
         (c : Connection) → Alive t c → (a : Ask) → M .reads q ≡ asks a → LiveNow →
@@ -151,7 +155,7 @@ module _ (M : Machine) (Sound : M .State → Type 0) (keeps : KeepsTo M Sound) (
     other-phase fair x e (alive opened-t c al) =
         ⊎-elim
         (λ (live : LiveNow).
-        let elsewhere : placeBy (M .number) (filter connections (M .view (t .state)) (x .ask)) ≡ M .number (al .place) → ⊥ = λ same. fair opened-t live e (x .place ∙ same ∙ al .numbered) in
+        let elsewhere : placeBy (M .number) (filter connections (M .view (t .state)) (x .ask)) ≡ M .number (al .place) → ⊥ = λ same. fair (x .ask) (x .read) opened-t live e (x .place ∙ same ∙ al .numbered) in
         let now = live-now c al (x .ask) (x .read) live in
         let r = pass-elsewhere P known (M .view (t .state)) (keeps .sound-view (t .state) (kept .sound)) (M .number) (al .place) c (x .ask) (al .ours) (al .others) now (x .answer) elsewhere in
         alive opened-t c record {
@@ -183,10 +187,7 @@ module _ (M : Machine) (Sound : M .State → Type 0) (keeps : KeepsTo M Sound) (
               clock = clock-after x e;
               phase = other-phase fair x e (kept .phase);
             }
-        by-reading apart is e =
-            let clock : nextClock M t q ≡ max (clockIn (M .reads q)) (t .passClock) = if-true _ _ _ e in
-            let none = ap (clockIn) is in
-            unmoved (keeps .apart-keeps (t .state) q (kept .sound) is) (omega (arith, clock, none))
+        by-reading apart is e = unmoved (keeps .apart-keeps (t .state) q (kept .sound) is) (apart-clock is)
 
     -- A call with a segment p of the pair's, that passes
 
@@ -338,7 +339,13 @@ module _ (M : Machine) (Sound : M .State → Type 0) (keeps : KeepsTo M Sound) (
   after-other q L inv fair =
       let pr = protocol-called P (told M s₀ L .passed) (λ j g. Arrived j g L) L (inv .protocol) q other in
       record {
-        table = other-kept (told M s₀ L) (inv .table) q fair;
+        table = other-kept (told M s₀ L) (inv .table) q (λ a read after-opening live answered-0 place. fair record {
+          after-opening = after-opening;
+          live = live;
+          not-apart = λ is. false-true cc;
+          answered-0 = answered-0;
+          place = place;
+        });
         protocol = record {
           facts = pr .facts;
           order = pr .order;
@@ -433,6 +440,10 @@ module _ (M : Machine) (Sound : M .State → Type 0) (keeps : KeepsTo M Sound) (
       let r = kept-along sound L (legal .1) in (after-other q L (r .0) (legal .0), r .1)
   kept-along sound (delivery k p ∷ L) legal =
       let r = kept-along sound L (legal .1) in (after-delivery k p L (r .0) (legal .0), r .1)
+
+-- nothing is asked of a call on another part of the table
+pub apart-fair : (M : Machine) (s₀ : M .State) (P : Pair) (q : M .Call) (L : List (Event (M .Call))) → M .reads q ≡ apart → FairCall M s₀ P other q L
+apart-fair M s₀ P q L is = λ on-ours. on-ours .not-apart is
 
 -- two honest ends are never blocked
 pub demand3 : (M : Machine) (Sound : M .State → Type 0) → KeepsTo M Sound → Demand3 M Sound

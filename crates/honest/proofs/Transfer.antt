@@ -229,8 +229,13 @@ module _ (M : Machine) (Sound : M .State → Type 0) (keeps : KeepsTo M Sound) (
         in-order = λ j g was. r .in-order j g (arrived-carries M j g c was);
         live = rw live-same (r .live);
       }
-      fair-call-carried P other elsewhere =
-          λ opened live pass place. elsewhere (sym opened-same ∙ opened) (rw live-same at live) (sym passes-same ∙ pass) (sym said-place-same ∙ place ∙ place-same)
+      fair-call-carried P other elsewhere = λ on-ours. elsewhere record {
+        after-opening = sym opened-same ∙ on-ours .after-opening;
+        live = rw live-same at (on-ours .live);
+        not-apart = λ never. false-true cc;
+        answered-0 = sym passes-same ∙ on-ours .answered-0;
+        place = sym said-place-same ∙ on-ours .place ∙ place-same;
+      }
 
   passed-carried : (k : ℕ) (p : LineSegment) {L : Carrying M} {N : Carried M} → Carries M L N → Passed F t₀ k p N → Passed M s₀ k p L
   passed-carried k p none was = was
@@ -247,7 +252,7 @@ module _ (M : Machine) (Sound : M .State → Type 0) (keeps : KeepsTo M Sound) (
   legal-along P (sent {p = p} c) legal = ((legal .0 .0, legal .0 .1, honest-carried M P p c (legal .0 .2)), legal-along P c (legal .1))
   legal-along P (called {q = q} {b = b} {l = l} is c) legal = (fair-call-carried c q b is P l (legal .0), legal-along P c (legal .1))
   legal-along P (refused-alone {q = q} {n = n} is c) legal =
-      (λ opened live pass place. false-true (sym (refused-no-pass _ (told-sound c) q n is) ∙ pass), legal-along P c legal)
+      (λ on-ours. false-true (sym (refused-no-pass _ (told-sound c) q n is) ∙ on-ours .answered-0), legal-along P c legal)
   legal-along P (delivered {k = k} {p = p} c) legal = (passed-carried k p c (legal .0), legal-along P c (legal .1))
 
   others-same : {L : Carrying M} {N : Carried M} → Carries M L N → otherAnswers M s₀ L ≡ otherAnswers F t₀ N

@@ -11,7 +11,7 @@ use Rattle.rows.specs.Rows as rows
 use Rattle.rows.specs.Rows.{Ask, nowhere}
 use Rattle.rows.specs.Connections.{connections}
 use Rattle.rows.specs.declared.Found.the-variants.{Nothing}
-use Rattle.honest.specs.Machine.{Said, asks, Machine, clockIn}
+use Rattle.honest.specs.Machine.{Said, asks, apart, Machine, clockIn}
 use Rattle.honest.specs.Rules.{Label, opening, arrival, other, Is, Event, send, call, delivery, Pair, Sent, Arrived, InOrder, sideOf, keyOf, Honest}
 
 module _ (M : Machine) where
@@ -28,7 +28,7 @@ module _ (M : Machine) where
     pub place : ℕ
     -- the segments that passed on the opening's entry, newest first
     pub passed : List LineSegment
-    -- the largest clock given at any pass so far; before the first the header's, 0 in a fresh table
+    -- the largest clock given at any pass so far on this part of the table; before the first the header's, 0 in a fresh table
     pub passClock : ℕ
     -- the pass clock right after the latest pass on the opening's entry plus the life of the stage which that pass gave
     pub until : ℕ
@@ -36,6 +36,7 @@ module _ (M : Machine) where
   unfoldable pub passes : Told → M .Call → Bool
   passes t q = M .run (t .state) q .answer =ᵇ 0
 
+  -- the pass clock after a call; one on another part of the table does not move it, as `clockIn` is 0 for it
   abbrev pub nextClock : Told → M .Call → ℕ
   nextClock t q = if passes t q then max (clockIn (M .reads q)) (t .passClock) else t .passClock
 
@@ -93,6 +94,16 @@ module _ (M : Machine) where
     pub clock : ℕ
     pub brings : M .reads q ≡ asks (record { side = sideOf P (p .from); clock = clock; key = keyOf P (p .from); segment = onWire p })
 
+  -- the call is passed on the opening's entry
+  pub record PassedOnOurs (s₀ : M .State) (q : M .Call) (L : Events) : Type 0 where
+    pub after-opening : told s₀ L .opened ≡ true
+    -- once that entry has expired, its place may be another's
+    pub live : Live s₀ q L
+    -- a call on another part of the table isn't on it, whatever its place
+    pub not-apart : M .reads q ≡ apart → ⊥
+    pub answered-0 : passes (told s₀ L) q ≡ true
+    pub place : said s₀ L q .place ≡ told s₀ L .place
+
   module _ (s₀ : M .State) (P : Pair) where
     -- the opening: an arrival of the opener's SYN that finds no live match and is answered 0
     pub record Opening (k : ℕ) (p : LineSegment) (q : M .Call) (L : Events) : Type 0 where
@@ -114,8 +125,8 @@ module _ (M : Machine) where
     abbrev pub FairCall : Label → M .Call → Events → Type 0
     FairCall (opening k p) q L = Opening k p q L
     FairCall (arrival k p) q L = Arrival k p q L
-    -- any other call is not passed on the opening's entry; once that has expired, its place may be another's
-    FairCall other q L = told s₀ L .opened ≡ true → Live s₀ q L → passes (told s₀ L) q ≡ true → said s₀ L q .place ≡ told s₀ L .place → ⊥
+    -- a call that is no arrival may give anything, but isn't passed on the opening's entry
+    FairCall other q L = PassedOnOurs s₀ q L → ⊥
 
     abbrev pub Fair : Event (M .Call) → Events → Type 0
     Fair (send p) L = (p .from < 2) × Formed p × Honest P p L
