@@ -2,7 +2,6 @@ pub mod Lists
 pub mod Sends
 pub mod Bounds
 pub mod Arrival
-pub mod Search
 pub mod Simulation
 pub mod Table
 pub mod SoundKept

@@ -19,15 +19,15 @@ use Rattle.rows.specs.Rows.{Ask, Entry, View, Passed, fromOpener, senderOf, ent
 use Rattle.rows.specs.Connections.{connections}
 use Rattle.rows.specs.declared.Found.the-variants.{At, Nothing}
 use Rattle.rows.proofs.Places.{nothing-at, found-by, none-if-nothing}
+use Rattle.rows.proofs.Matches.{EndOf, matches, matches-end, end-matches, far-end, same-end, mutual-end, live-match, unfound-expired, expired-unfound}
 use Rattle.rows.proofs.Rows.{Comes, blocks, passes, makes, comes}
 use Rattle.honest.specs.Sound.{SoundView}
 use Rattle.honest.specs.Rules.{Pair, sideOf, keyOf}
-use Rattle.honest.proofs.Search.{EndOf, matches, same-both, matches-end, end-matches, far-end, same-end, mutual-end, live-match, unfound-expired, expired-unfound}
 
 module _ (P : Pair) where
   -- an entry of the pair's addresses and ports, whichever end opened it: what the opener's segments match
   abbrev pub pairs : Entry connections → Bool
-  pairs e = matches e (P .side) (P .key)
+  pairs e = matches connections e (P .side) (P .key)
 
   abbrev pub ours : Connection → Entry connections
   ours c = record { key = P .key; connection = c }
@@ -105,17 +105,17 @@ module _ (P : Pair) where
           (passed (e .connection) i g now .deadline ≡ 0) ⊎ (passed (e .connection) i g now .side ≡ e .connection .side) →
           passed (e .connection) i g now .deadline ≤ now
       go m (inl freed) = omega arith
-      go m (inr same) = absurd (out (end-matches e (P .side) (P .key) (rw same at (matches-end _ (P .side) (P .key) m))))
+      go m (inr same) = absurd (out (end-matches connections e (P .side) (P .key) (rw same at (matches-end connections _ (P .side) (P .key) m))))
 
   -- an opening by a call that makes an entry of the pair matches ours
   made-matched :
       (c : Connection) (now side : ℕ) (k : Flow) (g : Segment) → c .side ≡ P .side → side ≡ 0 →
       pairs (openingEntry connections now side k g) ≡ true →
-      matches (ours c) side k ≡ true
+      matches connections (ours c) side k ≡ true
   unfolding openingEntry opened
   made-matched c now side k g our-side from-0 m =
       let made : Entry connections = record { key = k; connection = opened side g now } in
-      end-matches (ours c) side k (mutual-end made (ours c) (omega arith) (same-end made (sym our-side) refl (matches-end made (P .side) (P .key) m)))
+      end-matches connections (ours c) side k (mutual-end connections made (ours c) (omega arith) (same-end connections made (sym our-side) refl (matches-end connections made (P .side) (P .key) m)))
 
   module _ (known : P .side ≤ 1) (v : View connections) (sound : SoundView v) where
     side-known : (r : ℕ) → r < v .places → v .entry r .connection .side ≤ 1
@@ -123,19 +123,19 @@ module _ (P : Pair) where
 
     -- what an end of the pair matches, the opener matches
     asked-pairs :
-        (e : Entry connections) (i : ℕ) (a : Ask) → e .connection .side ≤ 1 → AskOf i a → matches e (a .side) (a .key) ≡ true →
+        (e : Entry connections) (i : ℕ) (a : Ask) → e .connection .side ≤ 1 → AskOf i a → matches connections e (a .side) (a .key) ≡ true →
         pairs e ≡ true
-    asked-pairs e i a e-known asked m = end-matches e (P .side) (P .key) (go (asks-as i a asked) (matches-end e (a .side) (a .key) m))
+    asked-pairs e i a e-known asked m = end-matches connections e (P .side) (P .key) (go (asks-as i a asked) (matches-end connections e (a .side) (a .key) m))
       where
-        go : Asks i a → EndOf e (a .side) (a .key) → EndOf e (P .side) (P .key)
-        go (as-opener _ s k) end = same-end e s k end
-        go (as-answerer _ s k) end = far-end e (P .side) (P .key) known e-known (same-end e s k end)
+        go : Asks i a → EndOf connections e (a .side) (a .key) → EndOf connections e (P .side) (P .key)
+        go (as-opener _ s k) end = same-end connections e s k end
+        go (as-answerer _ s k) end = far-end connections e (P .side) (P .key) known e-known (same-end connections e s k end)
 
     module _ (c : Connection) (i : ℕ) (a : Ask) (our-side : c .side ≡ P .side) (asked : AskOf i a) where
-      ours-matches : matches (ours c) (a .side) (a .key) ≡ true
-      ours-matches = end-matches _ (a .side) (a .key) (go (asks-as i a asked))
+      ours-matches : matches connections (ours c) (a .side) (a .key) ≡ true
+      ours-matches = end-matches connections _ (a .side) (a .key) (go (asks-as i a asked))
         where
-          go : Asks i a → EndOf (ours c) (a .side) (a .key)
+          go : Asks i a → EndOf connections (ours c) (a .side) (a .key)
           go (as-opener _ s k) = inl (omega arith, k)
           go (as-answerer _ s k) = inr (omega arith, ap reversed k)
 
@@ -153,8 +153,8 @@ module _ (P : Pair) where
         (rows.search connections v (clockUsed connections v a) (a .side) (a .key) ≡ At p) × (senderOf connections (ours c) (a .side) ≡ i)
     arrival-found p i c a o others asked live-now = (
       found-by _ (v .places) 0 p (omega arith) (omega (arith, o .inside))
-          (rw (o .there) (live-match (clockUsed connections v a) (a .side) (a .key) _ live-now (ours-matches c i a (o .our-side) asked)))
-          (λ r low less. expired-unfound (clockUsed connections v a) (a .side) (a .key) _ (λ m.
+          (rw (o .there) (live-match connections (clockUsed connections v a) (a .side) (a .key) _ live-now (ours-matches c i a (o .our-side) asked)))
+          (λ r low less. expired-unfound connections (clockUsed connections v a) (a .side) (a .key) _ (λ m.
           omega (arith, others r (omega (arith, less, o .inside)) (λ (e : r ≡ p). omega (arith, less)) (asked-pairs _ i a (side-known r (omega (arith, less, o .inside))) asked m)))),
       ours-sender c i a (o .our-side) asked,
     )
@@ -187,8 +187,8 @@ module _ (P : Pair) where
           is = is;
           ours = written-here v p (clockUsed connections v a) _ _ room (λ n. record { key = k n; connection = opened (s n) (a .segment) (clockUsed connections v a) }) refl;
           others = others-stay v p (clockUsed connections v a) p _
-              (λ r inside _ m. unfound-expired (clockUsed connections v a) (a .side) (a .key) (v .entry r) (none-if-nothing _ (v .places) 0 none r (omega arith) (omega arith))
-              (end-matches (v .entry r) (a .side) (a .key) (same-end (v .entry r) (sym s) (sym k) (matches-end (v .entry r) (P .side) (P .key) m))))
+              (λ r inside _ m. unfound-expired connections (clockUsed connections v a) (a .side) (a .key) (v .entry r) (none-if-nothing _ (v .places) 0 none r (omega arith) (omega arith))
+              (end-matches connections (v .entry r) (a .side) (a .key) (same-end connections (v .entry r) (sym s) (sym k) (matches-end connections (v .entry r) (P .side) (P .key) m))))
               (λ out. absurd (out refl));
         }
 
@@ -219,7 +219,7 @@ module _ (P : Pair) where
             rw is (
               written-elsewhere v p (clockUsed connections v a) q _ c o q≠p,
               others-stay v p (clockUsed connections v a) q _ later
-                  (λ _ m. false-true (sym (rw (o .there) at (none-if-nothing _ (v .places) 0 none p (omega arith) (omega (arith, o .inside)))) ∙ live-match (clockUsed connections v a) (a .side) (a .key) _ live-now (made-matched c (clockUsed connections v a) (a .side) (a .key) (a .segment) (o .our-side) from-0 m))),
+                  (λ _ m. false-true (sym (rw (o .there) at (none-if-nothing _ (v .places) 0 none p (omega arith) (omega (arith, o .inside)))) ∙ live-match connections (clockUsed connections v a) (a .side) (a .key) _ live-now (made-matched c (clockUsed connections v a) (a .side) (a .key) (a .segment) (o .our-side) from-0 m))),
             )
 
     -- a pass on ours: the entry that it leaves, and the others as before
