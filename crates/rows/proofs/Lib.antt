@@ -1,3 +1,5 @@
 pub mod Places
 pub mod Matches
 pub mod Rows
+pub mod Connections
+pub mod Examples

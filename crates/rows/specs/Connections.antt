@@ -1,8 +1,13 @@
--- What an entry of the table keeps: a connection's stage, side, FIN bits, deadline and two records.
+-- The rows over a table's connections: stage, side, FIN bits, deadline and two records.
+use Prim.Native.Nat.{ℕ, _≤_}
+use mathlib.Core.Path.{_≡_}
+use mathlib.Core.Logic.{_⊎_}
+use mathlib.Core.Bool.{true}
 use Rattle.choice.specs.Choice.{_=ᵇ_}
+use Rattle.segment.specs.declared.Segment.{Segment}
 use Rattle.connection.specs.Decision.{verdictOn, free, opened, passed}
 use Rattle.connection.specs.declared.Connection.{Connection}
-use Rattle.rows.specs.Rows.{Bodies}
+use Rattle.rows.specs.Rows.{Bodies, Entry, freeEntry, vacant}
 
 abbrev pub connections : Bodies
 connections = record {
@@ -16,3 +21,17 @@ connections = record {
   -- no connection in use has stage 0
   freed = λ (c : Connection). c .stage =ᵇ 0;
 }
+
+-- a pass has freed an entry exactly where the connection that it leaves is free
+abbrev pub FreedWhereFree : Type 0
+FreedWhereFree =
+    (c : Connection) (i : ℕ) (g : Segment) (now : ℕ) →
+    (connections .freed (passed c i g now) ≡ true → passed c i g now ≡ free)
+    × (passed c i g now ≡ free → connections .freed (passed c i g now) ≡ true)
+
+-- an opening takes a place exactly where it is free or expired
+abbrev pub VacantWhereFreeOrExpired : Type 0
+VacantWhereFreeOrExpired =
+    (now : ℕ) (e : Entry connections) →
+    (vacant connections now e ≡ true → (e ≡ freeEntry connections) ⊎ (e .connection .deadline ≤ now))
+    × ((e ≡ freeEntry connections) ⊎ (e .connection .deadline ≤ now) → vacant connections now e ≡ true)

@@ -1,0 +1,116 @@
+-- A table of three places: a call for each row, and what passes leave there.
+use Prim.Native.Nat.{ℕ, zero, suc, _+_}
+use mathlib.Core.Path.{_≡_}
+use mathlib.Core.List.{[], _∷_}
+use Rattle.segment.specs.Flags.{SYN, ACK, ACK+RST}
+use Rattle.connection.specs.Decision.{free}
+use Rattle.connection.specs.Ends.{count, seqNum}
+use Rattle.connection.specs.declared.Connection.{Connection}
+use Rattle.connection.specs.declared.End.{End}
+use Rattle.address.specs.Flows.{dotted, endpoint, between, reversed, noFlow}
+use Rattle.address.specs.declared.Flow.{Flow}
+use Rattle.rows.specs.Rows.{Ask, Entry, View, filter, answerOf, after, placeBy}
+use Rattle.rows.specs.Connections.{connections}
+
+-- Tables
+
+abbrev outward : Flow
+outward = between (endpoint (dotted 10 0 0 1) 1024) (endpoint (dotted 10 0 0 2) 80)
+
+-- of no entry
+abbrev stranger : Flow
+stranger = between (endpoint (dotted 10 0 0 3) 1024) (endpoint (dotted 10 0 0 2) 80)
+
+abbrev numbers : (end edge win : ℕ) → End
+numbers end edge win = record { end = seqNum end; edge = seqNum edge; win = count win }
+
+abbrev connection : (stage deadline : ℕ) (opener answerer : End) → Connection
+connection stage deadline opener answerer = record { stage = stage; side = 0; fins = 0; deadline = deadline; ends = opener ∷ answerer ∷ [] }
+
+-- document 01's example after its first packet, and state K in stage 3
+abbrev unanswered : (deadline : ℕ) → Connection
+unanswered deadline = connection 1 deadline (numbers 101 101 1000) (numbers 0 0 1)
+
+abbrev stateK : (deadline : ℕ) → Connection
+stateK deadline = connection 3 deadline (numbers 101 2101 1000) (numbers 501 501 2000)
+
+abbrev entry : Flow → Connection → Entry connections
+entry k c = record { key = k; connection = c }
+
+abbrev three : (e f g : Entry connections) → ℕ → Entry connections
+three e f g zero = e
+three e f g (suc zero) = f
+three e f g (suc (suc p)) = g
+
+abbrev table : (e f g : Entry connections) → View connections
+table e f g = record { clock = 90; places = 3; entry = three e f g }
+
+-- all three match the same segments; at clock 100 the first has expired
+abbrev busy : View connections
+busy = table (entry outward (stateK 100)) (entry outward (stateK 101)) (entry outward (unanswered 101))
+
+-- at clock 100 no place is free or expired
+abbrev full : View connections
+full = table (entry outward (unanswered 101)) (entry outward (stateK 101)) (entry outward (stateK 101))
+
+-- Calls, by side, clock, addresses and ports; flags, s, n, a and w
+
+abbrev call : (side clock : ℕ) → Flow → (flags s n a w : ℕ) → Ask
+call side clock k flags s n a w = record {
+  side = side;
+  clock = clock;
+  key = k;
+  segment = record { seq = seqNum s; ack = seqNum a; window = count w; flags = flags; octets = count n };
+}
+
+-- a SYN that matches nothing; and data on the example's connection
+abbrev opening : Ask
+opening = call 0 100 stranger SYN 7 1 0 1000
+
+abbrev data10 : (clock : ℕ) → Ask
+data10 clock = call 0 clock outward ACK 101 10 501 1000
+
+abbrev answer : View connections → Ask → ℕ
+answer v a = answerOf connections (filter connections v a)
+
+-- as if this were the part of a table from its place 20 on
+abbrev place : View connections → Ask → ℕ
+place v a = placeBy (λ p. 20 + p) (filter connections v a)
+
+abbrev left : View connections → Ask → View connections
+left v a = after connections v (filter connections v a)
+
+-- The claims
+
+pub record RowsGive : Type 0 where
+  -- 11, also where the table is full: no live connection matches, and it is not SYN without ACK from side 0
+  pub row-11-flags : answer full (call 0 100 stranger ACK 7 1 0 1000) ≡ 11
+  pub row-11-side : answer full (call 1 100 stranger SYN 7 1 0 1000) ≡ 11
+  pub row-11-expired : answer busy (data10 101) ≡ 11
+  pub row-11-not-reversed : answer busy (call 1 100 outward ACK 501 0 101 2000) ≡ 11
+  -- 12: such a SYN, but no place is free or expired
+  pub row-12 : answer full opening ≡ 12
+  -- 13: matched connection in stage 1, and not one of the three segments allowed there
+  pub row-13 : answer full (data10 100) ≡ 13
+  -- 14: stage 2 or later, sequence range missed; 15: ACK set, acknowledgement range missed
+  pub row-14 : answer busy (call 0 100 outward ACK 101 2001 501 1000) ≡ 14
+  pub row-15 : answer busy (call 0 100 outward ACK 101 0 502 1000) ≡ 15
+  -- 0: passed, of the opener and of the answerer, on the first live match; or an opening, at the lowest place that is free or expired
+  pub row-0-opener : answer busy (data10 100) ≡ 0
+  pub row-0-answerer : answer busy (call 1 100 (reversed outward) ACK 501 0 101 2000) ≡ 0
+  pub row-0-opening : answer busy opening ≡ 0
+  pub place-found : place busy (data10 100) ≡ 21
+  pub place-taken : place busy opening ≡ 20
+  -- every other answer gives place 65,535
+  pub place-none : place full opening ≡ 65535
+  -- a pass changes only the header clock and that entry: deadline = clock used + life of the new stage
+  pub left-clock : left busy (data10 100) .clock ≡ 100
+  pub left-entry : left busy (data10 100) .entry 1 ≡ entry outward (connection 3 432000100 (numbers 111 2101 1000) (numbers 501 1501 2000))
+  pub left-before : left busy (data10 100) .entry 0 ≡ busy .entry 0
+  pub left-after : left busy (data10 100) .entry 2 ≡ busy .entry 2
+  -- clock used: the larger of the one given and the header's, 90
+  pub set-back-clock : left busy (data10 80) .clock ≡ 90
+  pub set-back-entry : left busy (data10 80) .entry 0 ≡ entry outward (connection 3 432000090 (numbers 111 2101 1000) (numbers 501 1501 2000))
+  -- opening SYN: stage 1; a passed RST frees the entry, addresses and ports too
+  pub left-opening : left busy opening .entry 0 ≡ entry stranger (connection 1 60100 (numbers 8 8 1000) (numbers 0 0 1))
+  pub left-reset : left busy (call 0 100 outward ACK+RST 101 0 501 1000) .entry 1 ≡ entry noFlow free
