@@ -72,6 +72,12 @@ none-before-found test (suc k) i j e p low high =
     (lt-or-ge p (i + 1)))
     (found-here-or-further test i k j e)
 
+-- so of all places from 0 up it is the first
+pub found-is-first :
+    (test : ℕ → Bool) (n p : ℕ) → firstFrom test 0 n ≡ At p →
+    (test p ≡ true) × ((q : ℕ) → q < p → test q ≡ false)
+found-is-first test n p found = (found-passes test n 0 p found .0, λ q before. none-before-found test n 0 p found q (omega arith) before)
+
 -- a place that passes, where none before it does, is the one found
 pub found-by :
     (test : ℕ → Bool) (k i j : ℕ) → i ≤ j → j < i + k → test j ≡ true → ((p : ℕ) → i ≤ p → p < j → test p ≡ false) →

@@ -1,22 +1,21 @@
 -- Each row by the fact that its test asks for, and what a call comes to.
 use Prim.Native.Nat.{ℕ, _-_, _≤_, _<_}
 use mathlib.Core.Path.{_≡_, refl, ap, _∙_}
-use mathlib.Core.Logic.{_⊎_, inl, inr}
-use mathlib.Core.Bool.{true, false, and-false}
+use mathlib.Core.Bool.{Bool, true, false, and-false}
 use native.Mathlib.Omega.{arith}
 use borrow.Author.Tests.{eq-eqb, ne-eqb, eqb-true, ltb-true}
 use Rattle.choice.specs.Choice.{if_then_else_, _<ᵇ_, _=ᵇ_}
-use Rattle.choice.proofs.Choice.{if-true, if-false, if-either}
-use Rattle.choice.proofs.Tests.{&&-true, true-or-false}
+use Rattle.choice.proofs.Choice.{if-true, if-false, if-either, if-=, if-=-not}
+use Rattle.choice.proofs.Tests.{&&-true}
 use Rattle.segment.specs.declared.Segment.{Segment}
 use Rattle.connection.specs.declared.Verdict.{Verdict}
 use Rattle.connection.specs.declared.Verdict.the-variants.{Pass, NotAllowed, SequenceMissed, AckMissed}
 use Rattle.address.specs.declared.Flow.{Flow}
 use Rattle.rows.specs.Rows as rows
-use Rattle.rows.specs.Rows.{Bodies, Entry, View, Outcome, Blocked, Passed, opens, fromOpener, fromAnswerer, liveMatch, lowestVacant, senderOf, entryAfter, byVerdict, onEntry, openingEntry, onVacant, unmatched, onFound, onSegment, answerOf, after}
+use Rattle.rows.specs.Rows.{Bodies, Entry, View, Outcome, Blocked, Passed, opens, freeEntry, fromOpener, fromAnswerer, liveMatch, vacant, lowestVacant, senderOf, entryWith, entryAfter, byVerdict, onEntry, openingEntry, onVacant, unmatched, onFound, onSegment, answerOf, after}
 use Rattle.rows.specs.declared.Found.{Found}
 use Rattle.rows.specs.declared.Found.the-variants.{At, Nothing}
-use Rattle.rows.proofs.Places.{found-passes}
+use Rattle.rows.proofs.Places.{found-passes, found-is-first}
 
 module _ (B : Bodies) where
   pub sender-known : (e : Entry B) (side : ℕ) → senderOf B e side < 2
@@ -34,10 +33,14 @@ module _ (B : Bodies) where
       let other = eqb-true side (1 - B .side (e .connection)) (&&-true (side =ᵇ 1 - B .side (e .connection)) _ is .0) in
       if-false _ _ _ (ne-eqb side (B .side (e .connection)) (λ (same : side ≡ B .side (e .connection)). omega arith))
 
-  -- a refusal changes nothing
-  pub refusal-keeps : (v : View B) (o : Outcome B) → (answerOf B o ≡ 0 → ⊥) → after B v o ≡ v
-  refusal-keeps v (Blocked n) refused = refl
-  refusal-keeps v (Passed p now e) refused = absurd (refused refl)
+  -- an entry that a pass has freed is free, addresses and ports too; any other keeps them
+  pub freed-entry : (e : Entry B) (left : B .Body) → B .freed left ≡ true → entryWith B e left ≡ freeEntry B
+  unfolding entryWith
+  freed-entry e left is = if-true _ _ _ is
+
+  pub kept-entry : (e : Entry B) (left : B .Body) → B .freed left ≡ false → entryWith B e left ≡ record { key = e .key; connection = left }
+  unfolding entryWith
+  kept-entry e left is = if-false _ _ _ is
 
   pub onEntry-by-verdict :
       (e : Entry B) (p now side : ℕ) (g : Segment) (v : Verdict) → B .verdict (e .connection) (senderOf B e side) g ≡ v →
@@ -47,24 +50,36 @@ module _ (B : Bodies) where
 
   module _ (v : View B) (now side : ℕ) (k : Flow) (g : Segment) where
     pub unmatched-not-from-side-0 : (side ≡ 0 → ⊥) → unmatched B v now side k g ≡ Blocked 11
-    unfolding unmatched
-    unmatched-not-from-side-0 h = if-false _ _ _ (rw (ne-eqb side 0 h))
+    unfolding unmatched if_then_else_
+    unmatched-not-from-side-0 h = rw (ne-eqb side 0 h)
 
     pub unmatched-not-syn : (g .flags ≡ 2 → ⊥) → unmatched B v now side k g ≡ Blocked 11
-    unfolding unmatched
-    unmatched-not-syn h = if-false _ _ _ (simp (ne-eqb (g .flags) 2 h, and-false))
+    unfolding unmatched if_then_else_
+    unmatched-not-syn h = rw (ne-eqb (g .flags) 2 h, and-false (side =ᵇ 0))
 
     pub unmatched-syn :
         side ≡ 0 → g .flags ≡ 2 → (o : Found) → lowestVacant B v now ≡ o →
         unmatched B v now side k g ≡ onVacant B o now side k g
-    unfolding unmatched
-    unmatched-syn h f o e = if-true _ _ _ (rw (eq-eqb side 0 h, eq-eqb (g .flags) 2 f)) ∙ ap (λ (x : Found). onVacant B x now side k g) e
+    unfolding unmatched if_then_else_
+    unmatched-syn h f o e = rw (eq-eqb side 0 h, eq-eqb (g .flags) 2 f, e)
 
     pub onSegment-by-search :
         (o : Found) → rows.search B v now side k ≡ o →
         onSegment B v now side k g ≡ onFound B o v now side k g
     unfolding onSegment
     onSegment-by-search o e = ap (λ (x : Found). onFound B x v now side k g) e
+
+    -- the search takes the first live match from place 0 up
+    pub found-first :
+        (p : ℕ) → rows.search B v now side k ≡ At p →
+        (liveMatch B now side k (v .entry p) ≡ true) × ((q : ℕ) → q < p → liveMatch B now side k (v .entry q) ≡ false)
+    found-first p found = found-is-first _ _ p found
+
+    -- an opening takes the lowest place that is free or expired
+    pub vacant-lowest :
+        (p : ℕ) → lowestVacant B v now ≡ At p →
+        (vacant B now (v .entry p) ≡ true) × ((q : ℕ) → q < p → vacant B now (v .entry q) ≡ false)
+    vacant-lowest p found = found-is-first _ _ p found
 
     -- a match that is found is one of the places, and live
     pub found-live : (p : ℕ) → rows.search B v now side k ≡ At p → (p < v .places) × (now < B .deadline (v .entry p .connection))
@@ -100,16 +115,13 @@ module _ (B : Bodies) where
         go AckMissed is inside live = blocks 15 (onEntry-by-verdict (v .entry p) p now side g _ is) (omega arith) (omega arith)
 
     by-vacant : rows.search B v now side k ≡ Nothing → Comes (unmatched B v now side k g)
-    unfolding unmatched
-    by-vacant none = go (true-or-false (opens side g)) (lowestVacant B v now) refl
+    unfolding unmatched if_then_else_
+    by-vacant none = go (opens side g) refl (lowestVacant B v now) refl
       where
-        go :
-            (opens side g ≡ true) ⊎ (opens side g ≡ false) → (r : Found) → lowestVacant B v now ≡ r →
-            Comes (if opens side g then onVacant B (lowestVacant B v now) now side k g else Blocked 11)
-        go (inr closed) r is = blocks 11 (if-false _ _ _ closed) (omega arith) (omega arith)
-        go (inl opening) Nothing is = blocks 12 (if-true _ _ _ opening ∙ ap (λ (x : Found). onVacant B x now side k g) is) (omega arith) (omega arith)
-        go (inl opening) (At p) is =
-            makes p (if-true _ _ _ opening ∙ ap (λ (x : Found). onVacant B x now side k g) is) none (omega (arith, found-passes _ _ _ _ is .2)) opening
+        go : (t : Bool) → opens side g ≡ t → (r : Found) → lowestVacant B v now ≡ r → Comes (unmatched B v now side k g)
+        go false closed r is = blocks 11 (rw closed) (omega arith) (omega arith)
+        go true opening Nothing is = blocks 12 (rw (is, opening)) (omega arith) (omega arith)
+        go true opening (At p) is = makes p (rw (is, opening)) none (omega (arith, found-passes _ _ _ _ is .2)) opening
 
     pub comes : Comes (onSegment B v now side k g)
     unfolding onSegment
@@ -118,3 +130,18 @@ module _ (B : Bodies) where
         go : (r : Found) → rows.search B v now side k ≡ r → Comes (onFound B r v now side k g)
         go (At p) found = by-verdict p found
         go Nothing none = by-vacant none
+
+  -- What an outcome leaves
+
+  -- every answer but a pass changes nothing
+  pub refusal-keeps : (v : View B) (o : Outcome B) → (answerOf B o ≡ 0 → ⊥) → after B v o ≡ v
+  refusal-keeps v (Blocked n) refused = refl
+  refusal-keeps v (Passed p now e) refused = absurd (refused refl)
+
+  -- a pass changes only the header clock and its entry
+  module _ (v : View B) (p now : ℕ) (e : Entry B) where
+    pub pass-writes : after B v (Passed p now e) .entry p ≡ e
+    pass-writes = if-= {a = p} {b = p} e (v .entry p) refl
+
+    pub pass-keeps : (q : ℕ) → (q ≡ p → ⊥) → after B v (Passed p now e) .entry q ≡ v .entry q
+    pass-keeps q elsewhere = if-=-not e (v .entry q) elsewhere

@@ -47,11 +47,11 @@ table e f g = record { clock = 90; places = 3; entry = three e f g }
 
 -- all three match the same segments; at clock 100 the first has expired
 abbrev busy : View connections
-busy = table (entry outward (stateK 100)) (entry outward (stateK 101)) (entry outward (unanswered 101))
+busy = table (entry outward (stateK 100)) (entry outward (stateK 101)) (entry outward (stateK 101))
 
 -- at clock 100 no place is free or expired
 abbrev full : View connections
-full = table (entry outward (unanswered 101)) (entry outward (stateK 101)) (entry outward (stateK 101))
+full = table (entry outward (unanswered 101)) (entry outward (unanswered 101)) (entry outward (unanswered 101))
 
 -- Calls, by side, clock, addresses and ports; flags, s, n, a and w
 
