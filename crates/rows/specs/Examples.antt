@@ -24,15 +24,15 @@ stranger = between (endpoint (dotted 10 0 0 3) 1024) (endpoint (dotted 10 0 0 2)
 abbrev numbers : (end edge win : ℕ) → End
 numbers end edge win = record { end = seqNum end; edge = seqNum edge; win = count win }
 
-abbrev connection : (stage deadline : ℕ) (opener answerer : End) → Connection
-connection stage deadline opener answerer = record { stage = stage; side = 0; fins = 0; deadline = deadline; ends = opener ∷ answerer ∷ [] }
+abbrev connection : (side stage deadline : ℕ) (opener answerer : End) → Connection
+connection side stage deadline opener answerer = record { stage = stage; side = side; fins = 0; deadline = deadline; ends = opener ∷ answerer ∷ [] }
 
--- document 01's example after its first packet, and state K in stage 3
+-- document 01's example after its first packet; and its state K, in stage 3 and with the opener's side
 abbrev unanswered : (deadline : ℕ) → Connection
-unanswered deadline = connection 1 deadline (numbers 101 101 1000) (numbers 0 0 1)
+unanswered deadline = connection 0 1 deadline (numbers 101 101 1000) (numbers 0 0 1)
 
-abbrev stateK : (deadline : ℕ) → Connection
-stateK deadline = connection 3 deadline (numbers 101 2101 1000) (numbers 501 501 2000)
+abbrev stateK : (side deadline : ℕ) → Connection
+stateK side deadline = connection side 3 deadline (numbers 101 2101 1000) (numbers 501 501 2000)
 
 abbrev entry : Flow → Connection → Entry connections
 entry k c = record { key = k; connection = c }
@@ -47,7 +47,11 @@ table e f g = record { clock = 90; places = 3; entry = three e f g }
 
 -- all three match the same segments; at clock 100 the first has expired
 abbrev busy : View connections
-busy = table (entry outward (stateK 100)) (entry outward (stateK 101)) (entry outward (stateK 101))
+busy = table (entry outward (stateK 0 100)) (entry outward (stateK 0 101)) (entry outward (stateK 0 101))
+
+-- opened on side 1
+abbrev turned : View connections
+turned = table (entry outward (stateK 1 101)) (entry outward (stateK 1 101)) (entry outward (stateK 1 101))
 
 -- at clock 100 no place is free or expired
 abbrev full : View connections
@@ -63,12 +67,15 @@ call side clock k flags s n a w = record {
   segment = record { seq = seqNum s; ack = seqNum a; window = count w; flags = flags; octets = count n };
 }
 
--- a SYN that matches nothing; and data on the example's connection
+-- a SYN that matches nothing; and on the example's connection ten octets of the opener's, and a wider window of the answerer's
 abbrev opening : Ask
 opening = call 0 100 stranger SYN 7 1 0 1000
 
-abbrev data10 : (clock : ℕ) → Ask
-data10 clock = call 0 clock outward ACK 101 10 501 1000
+abbrev tenOctets : (clock : ℕ) → Ask
+tenOctets clock = call 0 clock outward ACK 101 10 501 1000
+
+abbrev wider : Ask
+wider = call 1 100 (reversed outward) ACK 501 0 101 3000
 
 abbrev answer : View connections → Ask → ℕ
 answer v a = answerOf connections (filter connections v a)
@@ -86,31 +93,35 @@ pub record RowsGive : Type 0 where
   -- 11, also where the table is full: no live connection matches, and it is not SYN without ACK from side 0
   pub row-11-flags : answer full (call 0 100 stranger ACK 7 1 0 1000) ≡ 11
   pub row-11-side : answer full (call 1 100 stranger SYN 7 1 0 1000) ≡ 11
-  pub row-11-expired : answer busy (data10 101) ≡ 11
-  pub row-11-not-reversed : answer busy (call 1 100 outward ACK 501 0 101 2000) ≡ 11
+  pub row-11-expired : answer busy (tenOctets 101) ≡ 11
+  pub row-11-not-reversed : answer busy (call 1 100 outward ACK 501 0 101 3000) ≡ 11
+  pub row-11-turned : answer turned (tenOctets 100) ≡ 11
   -- 12: such a SYN, but no place is free or expired
   pub row-12 : answer full opening ≡ 12
   -- 13: matched connection in stage 1, and not one of the three segments allowed there
-  pub row-13 : answer full (data10 100) ≡ 13
+  pub row-13 : answer full (tenOctets 100) ≡ 13
   -- 14: stage 2 or later, sequence range missed; 15: ACK set, acknowledgement range missed
   pub row-14 : answer busy (call 0 100 outward ACK 101 2001 501 1000) ≡ 14
   pub row-15 : answer busy (call 0 100 outward ACK 101 0 502 1000) ≡ 15
   -- 0: passed, of the opener and of the answerer, on the first live match; or an opening, at the lowest place that is free or expired
-  pub row-0-opener : answer busy (data10 100) ≡ 0
-  pub row-0-answerer : answer busy (call 1 100 (reversed outward) ACK 501 0 101 2000) ≡ 0
+  pub row-0-opener : answer busy (tenOctets 100) ≡ 0
+  pub row-0-answerer : answer busy wider ≡ 0
+  pub row-0-turned : answer turned (call 1 100 outward ACK 101 10 501 1000) ≡ 0
   pub row-0-opening : answer busy opening ≡ 0
-  pub place-found : place busy (data10 100) ≡ 21
+  pub place-found : place busy (tenOctets 100) ≡ 21
   pub place-taken : place busy opening ≡ 20
   -- every other answer gives place 65,535
   pub place-none : place full opening ≡ 65535
   -- a pass changes only the header clock and that entry: deadline = clock used + life of the new stage
-  pub left-clock : left busy (data10 100) .clock ≡ 100
-  pub left-entry : left busy (data10 100) .entry 1 ≡ entry outward (connection 3 432000100 (numbers 111 2101 1000) (numbers 501 1501 2000))
-  pub left-before : left busy (data10 100) .entry 0 ≡ busy .entry 0
-  pub left-after : left busy (data10 100) .entry 2 ≡ busy .entry 2
+  pub left-clock : left busy (tenOctets 100) .clock ≡ 100
+  pub left-places : left busy (tenOctets 100) .places ≡ 3
+  pub left-opener : left busy (tenOctets 100) .entry 1 ≡ entry outward (connection 0 3 432000100 (numbers 111 2101 1000) (numbers 501 1501 2000))
+  pub left-answerer : left busy wider .entry 1 ≡ entry outward (connection 0 3 432000100 (numbers 101 3101 1000) (numbers 501 501 3000))
+  pub left-before : left busy (tenOctets 100) .entry 0 ≡ busy .entry 0
+  pub left-after : left busy (tenOctets 100) .entry 2 ≡ busy .entry 2
   -- clock used: the larger of the one given and the header's, 90
-  pub set-back-clock : left busy (data10 80) .clock ≡ 90
-  pub set-back-entry : left busy (data10 80) .entry 0 ≡ entry outward (connection 3 432000090 (numbers 111 2101 1000) (numbers 501 1501 2000))
+  pub set-back-clock : left busy (tenOctets 80) .clock ≡ 90
+  pub set-back-entry : left busy (tenOctets 80) .entry 0 ≡ entry outward (connection 0 3 432000090 (numbers 111 2101 1000) (numbers 501 1501 2000))
   -- opening SYN: stage 1; a passed RST frees the entry, addresses and ports too
-  pub left-opening : left busy opening .entry 0 ≡ entry stranger (connection 1 60100 (numbers 8 8 1000) (numbers 0 0 1))
+  pub left-opening : left busy opening .entry 0 ≡ entry stranger (connection 0 1 60100 (numbers 8 8 1000) (numbers 0 0 1))
   pub left-reset : left busy (call 0 100 outward ACK+RST 101 0 501 1000) .entry 1 ≡ entry noFlow free
