@@ -8,17 +8,17 @@ use lib.ListN.{length}
 use borrow.Author.Tests.{not-true, ltb-true, leb-true, eq-eqb, eqb-true, lt-ltb}
 use Rattle.choice.specs.Choice.{if_then_else_, _<ᵇ_, _≤ᵇ_, _=ᵇ_}
 use Rattle.choice.proofs.Tests.{&&-true, ||-true, false-true}
+use Rattle.address.specs.Flows.{sameFlow}
+use Rattle.address.proofs.Flows.{same-true}
 use Rattle.segment.specs.Flags.{syn, rst, ack, SYN, SYN+ACK}
 use Rattle.segment.specs.declared.Segment.{Segment}
 use Rattle.connection.specs.Ranges.{widest}
-use Rattle.history.specs.History.{LineSegment, onWire, Formed}
-use Rattle.address.specs.Flows.{sameFlow}
-use Rattle.address.proofs.Flows.{same-true}
 use Rattle.rows.specs.Rows as rows
 use Rattle.rows.specs.Rows.{View, Ask}
+use Rattle.rows.specs.Connections.{connections}
 use Rattle.rows.specs.declared.Found.{Found}
 use Rattle.rows.specs.declared.Found.the-variants.{At, Nothing}
-use Rattle.rows.specs.Connections.{connections}
+use Rattle.history.specs.History.{LineSegment, onWire, Formed}
 use Rattle.honest.specs.Machine.{asks, Machine}
 use Rattle.honest.specs.Rules.{Label, opening, arrival, other, Is, Event, send, call, delivery, Pair, sentBy, Sent, Arrived, InOrder, receivedBy, highest, some, ackOf, edgeOf, endOf, answered, sideOf, keyOf, FirstSegment, LaterSegment, Honest, first, later}
 use Rattle.honest.specs.Honest.{told, passes, Live, said, Passed, Arrives, Opening, Arrival, FairCall, Fair, Legal}

@@ -1,31 +1,31 @@
 -- Demand 2 over lists of calls: the table's answers, places and entries are those of the histories.
 use Prim.Native.Nat.{ℕ, _+_, _<_}
 use mathlib.Core.Path.{_≡_, refl, sym, ap, subst, _∙_}
-use mathlib.Core.Bool.{true, false}
 use mathlib.Core.Logic.{_⊎_, inl, inr}
+use mathlib.Core.Bool.{true, false}
 use mathlib.Core.List.{List, [], _∷_}
 use native.Mathlib.Omega.{arith}
 use borrow.Author.Tests.{eqb-true, eqb-false}
 use Rattle.choice.specs.Choice.{_=ᵇ_}
 use Rattle.choice.proofs.Choice.{if-true, if-both}
 use Rattle.choice.proofs.Tests.{&&-true, true-or-false}
+use Rattle.address.specs.declared.Flow.{Flow}
 use Rattle.segment.specs.Flags.{rst, SYN}
 use Rattle.segment.specs.declared.Segment.{Segment}
 use Rattle.connection.specs.Stages.{lifeOf}
 use Rattle.connection.specs.Decision.{verdictOn, passed, opened}
 use Rattle.connection.specs.declared.Connection.{Connection}
 use Rattle.connection.specs.declared.Verdict.the-variants.{Pass}
+use Rattle.rows.specs.Rows.{Ask, opens, Entry, freeEntry, entryWith, entryAfter, openingEntry, filter}
+use Rattle.rows.specs.Connections.{connections}
 use Rattle.history.specs.Numbers.{onRing}
 use Rattle.history.specs.History.{LineSegment, numbersOf, finsOf, stageOf, placed, judge, Holds, Placeable}
 use Rattle.history.proofs.Demand2.{Reached, unanswered, answered, judged, pass-holds, holds-first, reached-first}
-use Rattle.address.specs.declared.Flow.{Flow}
-use Rattle.rows.specs.Rows.{Ask, opens, Entry, freeEntry, entryWith, entryAfter, openingEntry, filter}
-use Rattle.rows.specs.Connections.{connections}
 use Rattle.honest.specs.Histories.{History, grown, histories, recordsOf, connectionOf}
 use Rattle.honest.specs.Demand2.{fresh, tableAfter, AllPlaceable, Demand2}
 use Rattle.honest.proofs.Arrival.{passed-renewed}
-use Rattle.honest.proofs.SoundKept.{reset-frees}
 use Rattle.honest.proofs.Simulation.{Agreeing, Related, answer-alike, place-alike, after-alike, filter-same}
+use Rattle.honest.proofs.SoundKept.{reset-frees}
 
 never : {A : Type 0} → Reached [] → A
 unfolding numbersOf

@@ -14,22 +14,22 @@ use Rattle.connection.specs.Stages.{lifeOf}
 use Rattle.connection.specs.Decision.{verdictOn, passed, opened}
 use Rattle.connection.specs.declared.Connection.{Connection}
 use Rattle.connection.specs.declared.Verdict.the-variants.{Pass}
-use Rattle.history.specs.Numbers.{Numbers}
-use Rattle.history.specs.History.{LineSegment, onWire, stageOf, Holds, Formed}
-use Rattle.history.proofs.Pass.{opened-unanswered, opened-holds, opener-begins}
 use Rattle.rows.specs.Rows as rows
 use Rattle.rows.specs.Rows.{Ask, View, Entry, Passed as Passes, clockUsed, senderOf, entryWith, entryAfter, onEntry, filter, answerOf, placeBy, after}
 use Rattle.rows.specs.Connections.{connections}
 use Rattle.rows.specs.declared.Found.the-variants.{Nothing}
 use Rattle.rows.proofs.Rows.{onSegment-by-search, onEntry-by-verdict}
+use Rattle.history.specs.Numbers.{Numbers}
+use Rattle.history.specs.History.{LineSegment, onWire, stageOf, Holds, Formed}
+use Rattle.history.proofs.Pass.{opened-unanswered, opened-holds, opener-begins}
 use Rattle.honest.specs.Sound.{SoundView}
 use Rattle.honest.specs.Machine.{Reading, refused, asks, apart, Machine, clockIn, KeepsTo}
-use Rattle.honest.specs.Rules.{Label, opening, arrival, other, Event, send, call, delivery, Pair, sideOf, keyOf, Sent, Arrived, receivedBy, answered, Honest}
+use Rattle.honest.specs.Rules.{Label, opening, arrival, other, Event, send, call, delivery, Pair, sideOf, keyOf, Sent, Arrived, receivedBy, Honest}
 use Rattle.honest.specs.Honest.{Told, passes, nextClock, afterSegment, afterCall, told, said, Passed, Opening, Arrival, FairCall, Legal, NeverBlocked, Demand3}
 use Rattle.honest.proofs.Lists.{In}
 use Rattle.honest.proofs.Sends.{SentWith, sent-with, First, Later, Fact, first-facts, Protocol, answered-in, protocol-sent, protocol-delivered, protocol-called, protocol-passed}
-use Rattle.honest.proofs.Table.{OurEntry, OthersExpired, ours, AskOf, arrival-found, opening-made, pass-elsewhere, pass-on-ours, pass-clock}
 use Rattle.honest.proofs.Arrival.{Heard, quiet, passing, passed-renewed, opened-renewed}
+use Rattle.honest.proofs.Table.{OurEntry, OthersExpired, ours, AskOf, arrival-found, opening-made, pass-elsewhere, pass-on-ours, pass-clock}
 
 -- a stage with a life is not that of a free entry
 in-use-stage : (stage : ℕ) → 1 ≤ lifeOf stage → stage ≡ 0 → ⊥

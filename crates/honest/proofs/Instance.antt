@@ -10,11 +10,11 @@ use Rattle.rows.proofs.Rows.{refusal-keeps}
 use Rattle.honest.specs.Machine.{KeepsTo}
 use Rattle.honest.specs.Rules.{Event, Pair}
 use Rattle.honest.specs.Honest.{Legal, NeverBlocked, Demand3}
-use Rattle.honest.specs.Instance.{ViewCall, viewMachine, SoundTypedView}
 use Rattle.honest.specs.Demand2.{fresh, Demand2Of}
+use Rattle.honest.specs.Instance.{ViewCall, viewMachine, SoundTypedView}
 use Rattle.honest.proofs.SoundKept.{free-typed, filter-sound}
-use Rattle.honest.proofs.Demand3.{demand3}
 use Rattle.honest.proofs.Demand2Machine.{demand2-of}
+use Rattle.honest.proofs.Demand3.{demand3}
 
 module _ (number : ℕ → ℕ) where
   pub viewMachine-keeps : KeepsTo (viewMachine number) (SoundTypedView)

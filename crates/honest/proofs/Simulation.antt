@@ -5,13 +5,13 @@ use mathlib.Core.Bool.{true}
 use native.Mathlib.Omega.{arith}
 use Rattle.choice.specs.Choice.{_=ᵇ_}
 use Rattle.choice.proofs.Choice.{if-both}
+use Rattle.address.specs.declared.Flow.{Flow}
 use Rattle.segment.specs.declared.Segment.{Segment}
 use Rattle.connection.specs.declared.Verdict.{Verdict}
 use Rattle.connection.specs.declared.Verdict.the-variants.{Pass, NotAllowed, SequenceMissed, AckMissed}
-use Rattle.address.specs.declared.Flow.{Flow}
+use Rattle.rows.specs.Places.{firstFrom}
 use Rattle.rows.specs.Rows as rows
 use Rattle.rows.specs.Rows.{Bodies, Ask, opens, Entry, View, Outcome, Blocked, Passed, freeEntry, fromOpener, fromAnswerer, liveMatch, vacant, lowestVacant, senderOf, entryAfter, byVerdict, onEntry, openingEntry, onVacant, unmatched, onFound, onSegment, clockUsed, filter, answerOf, placeBy, after}
-use Rattle.rows.specs.Places.{firstFrom}
 use Rattle.rows.specs.declared.Found.{Found}
 use Rattle.rows.specs.declared.Found.the-variants.{At, Nothing}
 use Rattle.rows.proofs.Places.{first-same}

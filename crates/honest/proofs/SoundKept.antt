@@ -10,8 +10,10 @@ use Rattle.choice.specs.Choice.{_=ᵇ_}
 use Rattle.choice.proofs.Choice.{if-true, if-either, if-cases}
 use Rattle.serial.specs.Ring.{ringPlus}
 use Rattle.serial.specs.Serial.{further}
-use Rattle.serial.proofs.Ring.{wrap-small}
 use Rattle.serial.specs.declared.SeqNum.{SeqNum}
+use Rattle.serial.proofs.Ring.{wrap-small}
+use Rattle.address.specs.Flows.{noFlow}
+use Rattle.address.specs.declared.Flow.{Flow}
 use Rattle.segment.specs.Flags.{rst}
 use Rattle.segment.specs.declared.Segment.{Segment}
 use Rattle.connection.specs.Ends.{zeros, unheard, opening, sent, granted, written}
@@ -21,14 +23,12 @@ use Rattle.connection.specs.declared.Connection.{Connection}
 use Rattle.connection.specs.declared.End.{End}
 use Rattle.connection.specs.declared.Verdict.the-variants.{Pass}
 use Rattle.connection.proofs.Sound.{later-sound}
-use Rattle.history.specs.History.{Placeable}
-use Rattle.history.specs.Records.{Fits, TwoEnds}
-use Rattle.history.proofs.Sound.{opened-sound, passed-sound}
-use Rattle.address.specs.declared.Flow.{Flow}
-use Rattle.address.specs.Flows.{noFlow}
 use Rattle.rows.specs.Rows.{Ask, Entry, View, Outcome, Blocked, Passed, freeEntry, entryWith, entryAfter, openingEntry, clockUsed, filter, after}
 use Rattle.rows.specs.Connections.{connections}
 use Rattle.rows.proofs.Rows.{sender-known, Comes, blocks, passes, makes, comes}
+use Rattle.history.specs.History.{Placeable}
+use Rattle.history.specs.Records.{Fits, TwoEnds}
+use Rattle.history.proofs.Sound.{opened-sound, passed-sound}
 use Rattle.honest.specs.Sound.{SoundView, Typed, TypedView}
 
 -- Numbers stay below 2^32

@@ -2,20 +2,20 @@
 use Prim.Native.Nat.{ℕ, zero, suc, _-_, _<_, _≤_}
 use mathlib.Core.Path.{_≡_, refl, sym, ap, _∙_}
 use mathlib.Core.Logic.{_⊎_, inl, inr, ⊎-elim}
-use mathlib.Core.Bool.{Bool, true, _&&_}
+use mathlib.Core.Bool.{Bool, true}
 use native.Mathlib.Omega.{arith}
 use borrow.Author.Tests.{eq-eqb, ne-eqb, eqb-true}
 use Rattle.choice.specs.Choice.{if_then_else_, _=ᵇ_}
 use Rattle.choice.proofs.Choice.{if-true, if-false, if-either, if-cases, if-=, if-=-not}
 use Rattle.choice.proofs.Tests.{&&-true, false-true}
+use Rattle.address.specs.Flows.{reversed}
+use Rattle.address.specs.declared.Flow.{Flow}
 use Rattle.segment.specs.declared.Segment.{Segment}
 use Rattle.connection.specs.Decision.{opened, passed, carried, repeated, answered}
 use Rattle.connection.specs.declared.Connection.{Connection}
 use Rattle.connection.proofs.Sound.{sound-facts}
-use Rattle.address.specs.declared.Flow.{Flow}
-use Rattle.address.specs.Flows.{sameFlow, reversed}
 use Rattle.rows.specs.Rows as rows
-use Rattle.rows.specs.Rows.{Ask, Entry, View, Passed, fromOpener, senderOf, entryWith, entryAfter, openingEntry, clockUsed, filter, answerOf, placeBy, after}
+use Rattle.rows.specs.Rows.{Ask, Entry, View, Passed, senderOf, entryWith, entryAfter, openingEntry, clockUsed, filter, answerOf, placeBy, after}
 use Rattle.rows.specs.Connections.{connections}
 use Rattle.rows.specs.declared.Found.the-variants.{At, Nothing}
 use Rattle.rows.proofs.Places.{nothing-at, found-by, none-if-nothing}

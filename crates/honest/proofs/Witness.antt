@@ -6,23 +6,23 @@ use native.Mathlib.Omega.{arith}
 use Rattle.choice.specs.Choice.{if_then_else_}
 use Rattle.serial.specs.Ring.{wrap, ringPlus, ringMinus, nearest}
 use Rattle.serial.specs.Serial.{further}
+use Rattle.address.specs.Flows.{sameFlow}
 use Rattle.connection.specs.Ends.{sent, granted, written}
 use Rattle.connection.specs.Ranges.{sequenceMet, ackMet}
 use Rattle.connection.specs.Stages.{lifeOf, withFin, finsAfter, openStage, stageAfter}
 use Rattle.connection.specs.Decision.{sameSyn, reply, verdictUnanswered, verdictByRanges, verdictOn, opened, repeated, answered, carried, passed}
-use Rattle.history.specs.History.{finsOf, stageOf}
 use Rattle.rows.specs.Places.{firstFrom}
 use Rattle.rows.specs.Rows.{fromOpener, fromAnswerer, liveMatch, vacant, senderOf, entryWith, onEntry, openingEntry, unmatched, onSegment}
+use Rattle.history.specs.History.{finsOf, stageOf}
 use Rattle.honest.specs.Rules
 use Rattle.honest.specs.Rules.{sentBy, receivedBy, highest, some}
 use Rattle.honest.specs.Honest.{passes, afterCall, told, Legal, NeverBlocked}
-use Rattle.address.specs.Flows.{sameFlow}
 use Rattle.honest.specs.Instance.{viewMachine}
 use Rattle.honest.specs.Carries.{summaryOf}
 use Rattle.honest.specs.Marked.{empty}
 use Rattle.honest.specs.Witness.{ends, witness}
-use Rattle.honest.proofs.Check.{legal?, legal?-sound}
 use Rattle.honest.proofs.Instance.{demand3-list, fresh-sound}
+use Rattle.honest.proofs.Check.{legal?, legal?-sound}
 
 computed :
     (legal? empty ends witness ≡ true)

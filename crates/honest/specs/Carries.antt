@@ -4,8 +4,8 @@
 use Prim.Native.Nat.{ℕ, zero, suc}
 use mathlib.Core.Path.{_≡_}
 use mathlib.Core.List.{List, [], _∷_, reverse}
-use Rattle.history.specs.History.{LineSegment, stageOf}
 use Rattle.rows.specs.Rows.{Ask}
+use Rattle.history.specs.History.{LineSegment, stageOf}
 use Rattle.honest.specs.Machine.{Reading, refused, asks, apart, Machine}
 use Rattle.honest.specs.Rules.{Label, opening, arrival, other, Event, send, call, delivery, Pair}
 use Rattle.honest.specs.Honest.{told, said, Legal}

@@ -2,11 +2,11 @@
 use Prim.Native.Nat.{ℕ}
 use mathlib.Core.Path.{_≡_}
 use mathlib.Core.List.{List, [], _∷_}
-use Rattle.history.specs.History.{Placeable}
 use Rattle.rows.specs.Rows.{Bodies, Ask, View, Outcome, freeEntry, filter, answerOf, placeBy, after, nowhere}
 use Rattle.rows.specs.Connections.{connections}
-use Rattle.honest.specs.Histories.{histories, inNumbers}
+use Rattle.history.specs.History.{Placeable}
 use Rattle.honest.specs.Machine.{Reading, refused, asks, apart, Machine}
+use Rattle.honest.specs.Histories.{histories, inNumbers}
 
 module _ (B : Bodies) (n : ℕ) where
   -- the fresh table: n free places

@@ -4,14 +4,14 @@ use Prim.Native.Nat.{ℕ, _+_}
 use mathlib.Core.List.{List, [], _∷_}
 use Rattle.choice.specs.Choice.{_=ᵇ_}
 use Rattle.segment.specs.declared.Segment.{Segment}
-use Rattle.connection.specs.Stages.{lifeOf}
 use Rattle.connection.specs.Ends.{zeros}
+use Rattle.connection.specs.Stages.{lifeOf}
 use Rattle.connection.specs.declared.Connection.{Connection}
 use Rattle.connection.specs.declared.End.{End}
-use Rattle.history.specs.Numbers.{onRing}
-use Rattle.history.specs.History.{LineSegment, numbersOf, finsOf, stageOf, placed, judge}
 use Rattle.rows.specs.Rows.{Bodies, View}
 use Rattle.rows.specs.Connections.{connections}
+use Rattle.history.specs.Numbers.{onRing}
+use Rattle.history.specs.History.{LineSegment, numbersOf, finsOf, stageOf, placed, judge}
 
 -- newest first; a free entry has no segments
 pub record History : Type 0 where

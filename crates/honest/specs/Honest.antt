@@ -6,11 +6,11 @@ use mathlib.Core.Bool.{Bool, true, false}
 use mathlib.Core.List.{List, [], _∷_}
 use Rattle.choice.specs.Choice.{if_then_else_, _=ᵇ_}
 use Rattle.connection.specs.Stages.{lifeOf}
-use Rattle.history.specs.History.{LineSegment, onWire, stageOf, Formed}
 use Rattle.rows.specs.Rows as rows
 use Rattle.rows.specs.Rows.{Ask, nowhere}
 use Rattle.rows.specs.Connections.{connections}
 use Rattle.rows.specs.declared.Found.the-variants.{Nothing}
+use Rattle.history.specs.History.{LineSegment, onWire, stageOf, Formed}
 use Rattle.honest.specs.Machine.{Said, asks, apart, Machine, clockIn}
 use Rattle.honest.specs.Rules.{Label, opening, arrival, other, Is, Event, send, call, delivery, Pair, Sent, Arrived, InOrder, sideOf, keyOf, Honest}
 

@@ -1,8 +1,8 @@
 -- The rows themselves as a machine: its table is a view.
 use Prim.Native.Nat.{ℕ, _≤_}
-use Rattle.history.specs.History.{Placeable}
 use Rattle.rows.specs.Rows.{View, Ask, filter, answerOf, placeBy, after}
 use Rattle.rows.specs.Connections.{connections}
+use Rattle.history.specs.History.{Placeable}
 use Rattle.honest.specs.Sound.{SoundView, TypedView}
 use Rattle.honest.specs.Machine.{asks, Machine}
 

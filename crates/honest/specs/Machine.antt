@@ -1,9 +1,9 @@
 -- A machine that answers calls, and what must be shown of it: that it keeps to rows 11 to 15 and 0 on a view of its table.
 use Prim.Native.Nat.{ℕ}
 use mathlib.Core.Path.{_≡_}
-use Rattle.history.specs.History.{Placeable}
 use Rattle.rows.specs.Rows.{Ask, View, filter, answerOf, nowhere, placeBy, after}
 use Rattle.rows.specs.Connections.{connections}
+use Rattle.history.specs.History.{Placeable}
 use Rattle.honest.specs.Sound.{SoundView}
 
 -- what a machine says to a call, and the state that it leaves

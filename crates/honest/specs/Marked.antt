@@ -3,6 +3,8 @@ use Prim.Native.Nat.{ℕ}
 use mathlib.Core.Bool.{Bool, true, _&&_}
 use mathlib.Core.List.{List, [], _∷_}
 use Rattle.choice.specs.Choice.{_=ᵇ_, if_then_else_}
+use Rattle.address.specs.Flows.{dotted, endpoint, between, reversed}
+use Rattle.address.specs.declared.Flow.{Flow}
 use Rattle.segment.specs.Flags.{SYN, SYN+ACK, ACK}
 use Rattle.segment.specs.declared.Segment.{Segment}
 use Rattle.connection.specs.Ends.{count, seqNum, sender}
@@ -11,8 +13,6 @@ use Rattle.rows.specs.Rows as rows
 use Rattle.rows.specs.Rows.{Entry, View, Ask, Passed, filter, answerOf, placeBy, nowhere}
 use Rattle.rows.specs.Connections.{connections}
 use Rattle.honest.specs.Demand2.{fresh}
-use Rattle.address.specs.Flows.{dotted, endpoint, between, reversed}
-use Rattle.address.specs.declared.Flow.{Flow}
 
 -- Calls
 

@@ -8,10 +8,10 @@ use mathlib.Core.Bool.{Bool, true, false, _||_}
 use mathlib.Core.List.{List, [], _∷_}
 use lib.ListN.{length}
 use Rattle.choice.specs.Choice.{if_then_else_, _=ᵇ_}
+use Rattle.address.specs.Flows.{reversed}
+use Rattle.address.specs.declared.Flow.{Flow}
 use Rattle.segment.specs.Flags.{syn, rst, ack, SYN, SYN+ACK}
 use Rattle.history.specs.History.{LineSegment}
-use Rattle.address.specs.declared.Flow.{Flow}
-use Rattle.address.specs.Flows.{reversed}
 
 -- Events
 

@@ -6,9 +6,9 @@ use mathlib.Core.Bool.{true}
 use Rattle.connection.specs.Sound.{soundConnection}
 use Rattle.connection.specs.declared.Connection.{Connection}
 use Rattle.connection.specs.declared.End.{End}
-use Rattle.history.specs.Records.{TwoEnds}
 use Rattle.rows.specs.Rows.{View, freeEntry}
 use Rattle.rows.specs.Connections.{connections}
+use Rattle.history.specs.Records.{TwoEnds}
 
 -- every entry is free or sound by the header clock; what else document 01 asks, a clock under 2^48 and zero bytes, concerns the bytes
 abbrev pub SoundView : View connections → Type 0

@@ -12,11 +12,11 @@ use borrow.Author.Tests.{leb-true, eqb-true, eq-eqb}
 use Rattle.choice.specs.Choice.{_=ᵇ_, _≤ᵇ_}
 use Rattle.choice.proofs.Tests.{&&-true, not-||-true}
 use Rattle.serial.proofs.Ring.{wrap-small}
+use Rattle.address.specs.Flows.{dotted, endpoint, between, reversed}
+use Rattle.address.specs.declared.Flow.{Flow}
 use Rattle.segment.specs.Flags.{syn, SYN, SYN+ACK, ACK, FIN+ACK}
 use Rattle.history.specs.History.{LineSegment, onWire, Placeable}
 use Rattle.honest.specs.Rules.{opening, arrival, other, Event, send, call, delivery, Pair}
-use Rattle.address.specs.Flows.{dotted, endpoint, between, reversed}
-use Rattle.address.specs.declared.Flow.{Flow}
 use Rattle.honest.specs.Instance.{ViewCall}
 use Rattle.honest.specs.Marked.{outward}
 

@@ -9,8 +9,8 @@ use Rattle.choice.specs.Choice.{_=ᵇ_}
 use Rattle.choice.proofs.Choice.{if-either}
 use Rattle.choice.proofs.Tests.{false-true}
 use Rattle.segment.specs.declared.Segment.{Segment}
-use Rattle.connection.specs.Decision.{free, repeated, answered, carried, passed}
 use Rattle.connection.specs.Stages.{finsAfter, stageAfter}
+use Rattle.connection.specs.Decision.{free, repeated, answered, carried, passed}
 use Rattle.connection.specs.declared.Connection.{Connection}
 use Rattle.connection.proofs.Stages.{stageAfter≥2}
 use Rattle.rows.specs.Rows.{Entry, freeEntry, vacant}

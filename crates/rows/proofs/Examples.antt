@@ -3,11 +3,11 @@ use mathlib.Core.Path.{refl}
 use Rattle.choice.specs.Choice.{if_then_else_}
 use Rattle.serial.specs.Ring.{wrap, ringPlus, ringMinus, nearest}
 use Rattle.serial.specs.Serial.{further}
+use Rattle.address.specs.Flows.{sameFlow}
 use Rattle.connection.specs.Ends.{sent, granted, written}
 use Rattle.connection.specs.Ranges.{sequenceMet, ackMet}
 use Rattle.connection.specs.Stages.{lifeOf, withFin, finsAfter, openStage, stageAfter}
 use Rattle.connection.specs.Decision.{sameSyn, reply, verdictUnanswered, verdictByRanges, verdictOn, opened, repeated, answered, carried, passed}
-use Rattle.address.specs.Flows.{sameFlow}
 use Rattle.rows.specs.Places.{firstFrom}
 use Rattle.rows.specs.Rows.{fromOpener, fromAnswerer, liveMatch, vacant, senderOf, entryWith, onEntry, openingEntry, unmatched, onSegment}
 use Rattle.rows.specs.Examples.{RowsGive}

@@ -1,8 +1,8 @@
 -- Laws of a search over places, for every test: how a loop that is at place i of n goes on, and what its end says of each place.
 use Prim.Native.Nat.{ℕ, zero, suc, _+_, _-_, _≤_, _<_}
 use mathlib.Core.Path.{_≡_, refl, sym, _∙_}
-use mathlib.Core.Bool.{Bool, true, false}
 use mathlib.Core.Logic.{_⊎_, inl, inr, ⊎-elim}
+use mathlib.Core.Bool.{Bool, true, false}
 use native.Mathlib.Omega.{arith}
 use Rattle.choice.specs.Choice.{if_then_else_}
 use Rattle.choice.proofs.Choice.{if-true, if-false}

@@ -1,16 +1,16 @@
 -- Each row by the fact that its test asks for, and what a call comes to.
 use Prim.Native.Nat.{ℕ, _-_, _≤_, _<_}
-use mathlib.Core.Path.{_≡_, refl, ap, _∙_}
+use mathlib.Core.Path.{_≡_, refl, ap}
 use mathlib.Core.Bool.{Bool, true, false, and-false}
 use native.Mathlib.Omega.{arith}
 use borrow.Author.Tests.{eq-eqb, ne-eqb, eqb-true, ltb-true}
 use Rattle.choice.specs.Choice.{if_then_else_, _<ᵇ_, _=ᵇ_}
 use Rattle.choice.proofs.Choice.{if-true, if-false, if-either, if-=, if-=-not}
 use Rattle.choice.proofs.Tests.{&&-true}
+use Rattle.address.specs.declared.Flow.{Flow}
 use Rattle.segment.specs.declared.Segment.{Segment}
 use Rattle.connection.specs.declared.Verdict.{Verdict}
 use Rattle.connection.specs.declared.Verdict.the-variants.{Pass, NotAllowed, SequenceMissed, AckMissed}
-use Rattle.address.specs.declared.Flow.{Flow}
 use Rattle.rows.specs.Rows as rows
 use Rattle.rows.specs.Rows.{Bodies, Entry, View, Outcome, Blocked, Passed, opens, freeEntry, fromOpener, fromAnswerer, liveMatch, vacant, lowestVacant, senderOf, entryWith, entryAfter, byVerdict, onEntry, openingEntry, onVacant, unmatched, onFound, onSegment, answerOf, after}
 use Rattle.rows.specs.declared.Found.{Found}

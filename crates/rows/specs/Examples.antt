@@ -2,13 +2,13 @@
 use Prim.Native.Nat.{ℕ, zero, suc, _+_}
 use mathlib.Core.Path.{_≡_}
 use mathlib.Core.List.{[], _∷_}
-use Rattle.segment.specs.Flags.{SYN, ACK, ACK+RST}
-use Rattle.connection.specs.Decision.{free}
-use Rattle.connection.specs.Ends.{count, seqNum}
-use Rattle.connection.specs.declared.Connection.{Connection}
-use Rattle.connection.specs.declared.End.{End}
 use Rattle.address.specs.Flows.{dotted, endpoint, between, reversed, noFlow}
 use Rattle.address.specs.declared.Flow.{Flow}
+use Rattle.segment.specs.Flags.{SYN, ACK, ACK+RST}
+use Rattle.connection.specs.Ends.{count, seqNum}
+use Rattle.connection.specs.Decision.{free}
+use Rattle.connection.specs.declared.Connection.{Connection}
+use Rattle.connection.specs.declared.End.{End}
 use Rattle.rows.specs.Rows.{Ask, Entry, View, filter, answerOf, after, placeBy}
 use Rattle.rows.specs.Connections.{connections}
 

@@ -3,13 +3,13 @@
 use Prim.Native.Nat.{ℕ, _-_, max}
 use mathlib.Core.Bool.{Bool, _&&_, _||_}
 use Rattle.choice.specs.Choice.{if_then_else_, _<ᵇ_, _≤ᵇ_, _=ᵇ_}
+use Rattle.address.specs.Flows.{sameFlow, reversed, noFlow}
+use Rattle.address.specs.declared.Flow.{Flow}
 use Rattle.segment.specs.Flags.{SYN}
 use Rattle.segment.specs.declared.Segment.{Segment}
 use Rattle.connection.specs.Decision.{verdictNumber}
 use Rattle.connection.specs.declared.Verdict.{Verdict}
 use Rattle.connection.specs.declared.Verdict.the-variants.{Pass, NotAllowed, SequenceMissed, AckMissed}
-use Rattle.address.specs.declared.Flow.{Flow}
-use Rattle.address.specs.Flows.{sameFlow, reversed, noFlow}
 use Rattle.rows.specs.Places.{firstFrom}
 use Rattle.rows.specs.declared.Found.{Found}
 use Rattle.rows.specs.declared.Found.the-variants.{At, Nothing}
