@@ -16,7 +16,7 @@ use Rattle.connection.specs.Stages.{lifeOf}
 use Rattle.connection.specs.Decision.{verdictOn, passed, opened}
 use Rattle.connection.specs.declared.Connection.{Connection}
 use Rattle.connection.specs.declared.Verdict.the-variants.{Pass}
-use Rattle.rows.specs.Rows.{Ask, opens, Entry, freeEntry, entryWith, entryAfter, openingEntry, filter}
+use Rattle.rows.specs.Rows.{Ask, opens, Entry, View, freeEntry, entryWith, entryAfter, openingEntry, filter}
 use Rattle.rows.specs.Connections.{connections}
 use Rattle.history.specs.Numbers.{onRing}
 use Rattle.history.specs.History.{LineSegment, numbersOf, finsOf, stageOf, placed, judge, Holds, Placeable}
@@ -24,7 +24,7 @@ use Rattle.history.proofs.Demand2.{Reached, unanswered, answered, judged, pass-
 use Rattle.honest.specs.Histories.{History, grown, histories, recordsOf, connectionOf}
 use Rattle.honest.specs.Demand2.{fresh, tableAfter, AllPlaceable, Demand2}
 use Rattle.honest.proofs.Arrival.{passed-renewed}
-use Rattle.honest.proofs.Simulation.{Agreeing, Related, answer-alike, place-alike, after-alike, filter-same}
+use Rattle.honest.proofs.Simulation.{Agreeing, Related, Alike, answer-alike, place-alike, after-alike, filter-same}
 use Rattle.honest.proofs.SoundKept.{reset-frees}
 
 never : {A : Type 0} → Reached [] → A
@@ -57,10 +57,15 @@ record Stands (e : Entry connections) (f : Entry histories) : Type 0 where
 stands-by :
     (k : Flow) (c : Connection) (h : History) → c .side ≡ h .side → c .deadline ≡ h .deadline → Holds c (h .segments) →
     Reached (h .segments) → Stands (record { key = k; connection = c }) (record { key = k; connection = h })
-stands-by k c h side deadline holds reached = record {
-  is = λ i. record { key = k; connection = record { stage = holds .stage i; side = side i; fins = holds .fins i; deadline = deadline i; ends = (holds .ends ∙ sym (reached-holds h reached .ends)) i } };
-  reached = λ _. reached;
-}
+stands-by k c h side deadline holds reached =
+    let ends = holds .ends ∙ sym (reached-holds h reached .ends) in
+    record {
+      is = λ i. record {
+        key = k;
+        connection = record { stage = holds .stage i; side = side i; fins = holds .fins i; deadline = deadline i; ends = ends i };
+      };
+      reached = λ _. reached;
+    }
 
 -- an opening
 made-stands :
@@ -77,46 +82,57 @@ unfolding stageOf finsOf
 free-stands = record { is = refl; reached = λ live-now. absurd (omega arith) }
 
 -- a pass on a live entry
-module _ {e : Entry connections} {f : Entry histories} (i : ℕ) (g : Segment) (r : Stands e f) (live-now : 0 < e .connection .deadline) (known : i < 2) (placeable : Placeable g) where
-  reached : Reached (f .connection .segments)
+module _
+    {e : Entry connections} {f : Entry histories} (i : ℕ) (g : Segment) (r : Stands e f)
+    (live-now : 0 < e .connection .deadline) (known : i < 2) (placeable : Placeable g) where
+  abbrev c : Connection
+  c = e .connection
+
+  abbrev h : List LineSegment
+  h = f .connection .segments
+
+  -- what the pass leaves of both
+  abbrev after-c : ℕ → Entry connections
+  after-c now = record { key = e .key; connection = passed c i g now }
+
+  abbrev after-h : ℕ → Entry histories
+  after-h now = record { key = f .key; connection = grown (f .connection .side) (placed h i g ∷ h) now }
+
+  reached : Reached h
   reached = r .reached (omega (arith, ap (λ (x : Entry connections). x .connection .deadline) (r .is)))
 
-  holds : Holds (e .connection) (f .connection .segments)
-  holds = subst (λ (x : Entry connections). Holds (x .connection) (f .connection .segments)) (sym (r .is)) (reached-holds (f .connection) reached)
+  holds : Holds c h
+  holds = subst (λ (x : Entry connections). Holds (x .connection) h) (sym (r .is)) (reached-holds (f .connection) reached)
 
-  verdict-same : verdictOn (e .connection) i g ≡ judge (f .connection .segments) (placed (f .connection .segments) i g)
-  verdict-same = judged (e .connection) (f .connection .segments) holds reached (record { sender = i; segment = g; now = 0 }) record { sender-known = known; placeable = placeable }
+  verdict-same : verdictOn c i g ≡ judge h (placed h i g)
+  verdict-same = judged c h holds reached (record { sender = i; segment = g; now = 0 }) record { sender-known = known; placeable = placeable }
 
-  passed-stands :
-      (now : ℕ) → verdictOn (e .connection) i g ≡ Pass → (rst (g .flags) ≡ 1 → ⊥) →
-      Stands (record { key = e .key; connection = passed (e .connection) i g now }) (record { key = f .key; connection = grown (f .connection .side) (placed (f .connection .segments) i g ∷ f .connection .segments) now })
+  passed-stands : (now : ℕ) → verdictOn c i g ≡ Pass → (rst (g .flags) ≡ 1 → ⊥) → Stands (after-c now) (after-h now)
   passed-stands now passes no-reset =
-      let after = pass-holds (e .connection) (f .connection .segments) holds reached (record { sender = i; segment = g; now = now }) record { sender-known = known; placeable = placeable } no-reset (sym verdict-same ∙ passes) in
-      let renewed = passed-renewed (e .connection) i g now no-reset in
-      subst (λ (k : Flow). Stands (record { key = k; connection = passed (e .connection) i g now }) (record { key = f .key; connection = grown (f .connection .side) (placed (f .connection .segments) i g ∷ f .connection .segments) now }))
+      let after =
+      pass-holds c h holds reached (record { sender = i; segment = g; now = now }) record { sender-known = known; placeable = placeable }
+      no-reset (sym verdict-same ∙ passes) in
+      let renewed = passed-renewed c i g now no-reset in
+      let side = renewed .side ∙ ap (λ (x : Entry connections). x .connection .side) (r .is) in
+      let deadline = renewed .deadline ∙ ap (λ (s : ℕ). now + lifeOf s) (after .0 .stage) in
+      subst (λ (k : Flow). Stands (record { key = k; connection = passed c i g now }) (after-h now))
       (sym (ap (λ (x : Entry connections). x .key) (r .is)))
-      (stands-by (f .key) _ _ (renewed .side ∙ ap (λ (x : Entry connections). x .connection .side) (r .is)) (renewed .deadline ∙ ap (λ (s : ℕ). now + lifeOf s) (after .0 .stage)) (after .0) (after .1))
+      (stands-by (f .key) _ _ side deadline (after .0) (after .1))
 
   -- a pass frees both or neither
-  stage-same : (now : ℕ) → verdictOn (e .connection) i g ≡ Pass → passed (e .connection) i g now .stage ≡ stageOf (placed (f .connection .segments) i g ∷ f .connection .segments)
+  stage-same : (now : ℕ) → verdictOn c i g ≡ Pass → passed c i g now .stage ≡ stageOf (placed h i g ∷ h)
   stage-same now passes = go (true-or-false (rst (g .flags) =ᵇ 1))
     where
-      go :
-          (rst (g .flags) =ᵇ 1 ≡ true) ⊎ (rst (g .flags) =ᵇ 1 ≡ false) →
-          passed (e .connection) i g now .stage ≡ stageOf (placed (f .connection .segments) i g ∷ f .connection .segments)
-      go (inl reset) =
-          ap (λ (c : Connection). c .stage) (reset-frees (e .connection) i g now (eqb-true _ _ reset))
-          ∙ sym (reset-stage (f .connection .segments) i g reset)
+      go : (rst (g .flags) =ᵇ 1 ≡ true) ⊎ (rst (g .flags) =ᵇ 1 ≡ false) → passed c i g now .stage ≡ stageOf (placed h i g ∷ h)
+      go (inl reset) = ap (λ (x : Connection). x .stage) (reset-frees c i g now (eqb-true _ _ reset)) ∙ sym (reset-stage h i g reset)
       go (inr none) = ap (λ (x : Entry connections). x .connection .stage) (passed-stands now passes (eqb-false _ _ none) .is)
 
-  after-stands :
-      (now : ℕ) → verdictOn (e .connection) i g ≡ Pass →
-      Stands (entryAfter connections e i g now) (entryAfter histories f i g now)
+  after-stands : (now : ℕ) → verdictOn c i g ≡ Pass → Stands (entryAfter connections e i g now) (entryAfter histories f i g now)
   unfolding entryWith
   after-stands now passes =
       if-both Stands _ _ _ _ _ _ (ap (λ (n : ℕ). n =ᵇ 0) (stage-same now passes)) (λ _. free-stands)
       (λ in-use. passed-stands now passes (λ reset.
-      eqb-false _ _ in-use (ap (λ (c : Connection). c .stage) (reset-frees (e .connection) i g now reset))))
+      eqb-false _ _ in-use (ap (λ (x : Connection). x .stage) (reset-frees c i g now reset))))
 
 entries-agree : Agreeing Stands Placeable
 entries-agree = record {
@@ -131,6 +147,11 @@ entries-agree = record {
 
 -- The lists
 
+same-outcome :
+    (t : View connections) (u : View histories) → Related Stands t u → (a : Ask) → Placeable (a .segment) →
+    Alike Stands (filter connections t a) (filter histories u a)
+same-outcome = filter-same Stands Placeable entries-agree
+
 fresh-related : (n : ℕ) → Related Stands (fresh connections n) (fresh histories n)
 fresh-related n = record { clock = refl; places = refl; entries = λ p. free-stands }
 
@@ -143,7 +164,7 @@ tables-related n (a ∷ l) placeable =
     let before = tables-related n l (placeable .1) in
     let t = tableAfter connections n l in
     let u = tableAfter histories n l in
-    after-alike Stands t u before (filter connections t a) (filter histories u a) (filter-same Stands Placeable entries-agree t u before a (placeable .0))
+    after-alike Stands t u before (filter connections t a) (filter histories u a) (same-outcome t u before a (placeable .0))
 
 pub demand2 : Demand2
 demand2 n l placeable =
@@ -152,6 +173,7 @@ demand2 n l placeable =
     let u = tableAfter histories n l in
     record {
       table = λ i. record { clock = related .clock i; places = related .places i; entry = λ p. related .entries p .is i };
-      answer = λ a legal. answer-alike Stands (filter connections t a) (filter histories u a) (filter-same Stands Placeable entries-agree t u related a legal);
-      place = λ number a legal. place-alike Stands number (filter connections t a) (filter histories u a) (filter-same Stands Placeable entries-agree t u related a legal);
+      answer = λ a placeable. answer-alike Stands (filter connections t a) (filter histories u a) (same-outcome t u related a placeable);
+      place = λ number a placeable.
+          place-alike Stands number (filter connections t a) (filter histories u a) (same-outcome t u related a placeable);
     }

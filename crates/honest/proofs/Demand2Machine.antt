@@ -8,7 +8,9 @@ use Rattle.honest.specs.Machine.{Reading, refused, asks, apart, Machine,
 use Rattle.honest.specs.Demand2.{fresh, tableAfter, AllPlaceable, stateAfter, withAsk, asked, MachineFollows, Demand2Of}
 use Rattle.honest.proofs.Demand2Lists.{demand2}
 
-module _ (M : Machine) (Sound : M .State → Type 0) (keeps : KeepsTo M Sound) (s₀ : M .State) (sound : Sound s₀) (n : ℕ) (begins : M .view s₀ ≡ fresh connections n) where
+module _
+    (M : Machine) (Sound : M .State → Type 0) (keeps : KeepsTo M Sound)
+    (s₀ : M .State) (sound : Sound s₀) (n : ℕ) (begins : M .view s₀ ≡ fresh connections n) where
   pub stays-sound : (l : List (M .Call)) → Sound (stateAfter M s₀ l)
   unfolding stateAfter
   stays-sound [] = sound
@@ -44,14 +46,21 @@ module _ (M : Machine) (Sound : M .State → Type 0) (keeps : KeepsTo M Sound) (
 
   machine-follows : (l : List (M .Call)) → MachineFollows M s₀ n l
   machine-follows l =
+      let s = stateAfter M s₀ l in
       let follows = demand2 n (asked M l) (all-placeable l) in
       record {
         table = view-after l ∙ follows .table;
-        answer = λ q a e. keeps .answered (stateAfter M s₀ l) q a (stays-sound l) e ∙ ap (λ (v : View connections). answerOf connections (filter connections v a)) (view-after l) ∙ follows .answer a (keeps .well-formed q a e);
-        place = λ q a e. keeps .placed (stateAfter M s₀ l) q a (stays-sound l) e ∙ ap (λ (v : View connections). placeBy (M .number) (filter connections v a)) (view-after l) ∙ follows .place (M .number) a (keeps .well-formed q a e);
-        refusal-answer = λ q m e. keeps .refusal-answered (stateAfter M s₀ l) q m (stays-sound l) e;
-        refusal-place = λ q m e. keeps .refusal-placed (stateAfter M s₀ l) q m (stays-sound l) e;
-        apart-stays = λ q e. keeps .apart-keeps (stateAfter M s₀ l) q (stays-sound l) e;
+        answer = λ q a e.
+            keeps .answered s q a (stays-sound l) e
+            ∙ ap (λ (v : View connections). answerOf connections (filter connections v a)) (view-after l)
+            ∙ follows .answer a (keeps .well-formed q a e);
+        place = λ q a e.
+            keeps .placed s q a (stays-sound l) e
+            ∙ ap (λ (v : View connections). placeBy (M .number) (filter connections v a)) (view-after l)
+            ∙ follows .place (M .number) a (keeps .well-formed q a e);
+        refusal-answer = λ q m e. keeps .refusal-answered s q m (stays-sound l) e;
+        refusal-place = λ q m e. keeps .refusal-placed s q m (stays-sound l) e;
+        apart-stays = λ q e. keeps .apart-keeps s q (stays-sound l) e;
       }
 
 pub demand2-of : (M : Machine) (Sound : M .State → Type 0) → KeepsTo M Sound → Demand2Of M Sound

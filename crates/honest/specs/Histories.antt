@@ -43,7 +43,17 @@ recordsOf [] = zeros ∷ zeros ∷ []
 recordsOf (p ∷ h) = onRing (numbersOf 0 (p ∷ h)) ∷ onRing (numbersOf 1 (p ∷ h)) ∷ []
 
 abbrev pub connectionOf : History → Connection
-connectionOf h = record { stage = stageOf (h .segments); side = h .side; fins = finsOf (h .segments); deadline = h .deadline; ends = recordsOf (h .segments) }
+connectionOf h = record {
+  stage = stageOf (h .segments);
+  side = h .side;
+  fins = finsOf (h .segments);
+  deadline = h .deadline;
+  ends = recordsOf (h .segments);
+}
 
 abbrev pub inNumbers : View histories → View connections
-inNumbers u = record { clock = u .clock; places = u .places; entry = λ p. record { key = u .entry p .key; connection = connectionOf (u .entry p .connection) } }
+inNumbers u = record {
+  clock = u .clock;
+  places = u .places;
+  entry = λ p. record { key = u .entry p .key; connection = connectionOf (u .entry p .connection) };
+}

@@ -61,7 +61,10 @@ numbers end edge win = record { end = seqNum end; edge = seqNum edge; win = coun
 
 -- C11's own records: sender end = edge = 1, other win 1
 abbrev pub entry11 : Entry connections
-entry11 = record { key = outward; connection = record { stage = 3; side = 0; fins = 0; deadline = 432000000; ends = numbers 1 1 1 ∷ numbers 1 1 1 ∷ [] } }
+entry11 = record {
+  key = outward;
+  connection = record { stage = 3; side = 0; fins = 0; deadline = 432000000; ends = numbers 1 1 1 ∷ numbers 1 1 1 ∷ [] };
+}
 
 abbrev pub state11 : View connections
 state11 = rows.after connections empty (Passed 0 0 entry11)

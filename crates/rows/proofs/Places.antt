@@ -102,7 +102,8 @@ none-if-nothing test (suc k) i e p low high =
     ⊎-elim
     (λ (here : p < i + 1). let q : i ≡ p = omega arith in rw q at h)
     (λ (further : i + 1 ≤ p).
-    none-if-nothing test k (i + 1) (sym (if-false (test i) (At i) (firstFrom test (i + 1) k) h) ∙ sym (first-of-more test i k) ∙ e) p further (omega arith))
+    let rest = sym (if-false (test i) (At i) (firstFrom test (i + 1) k) h) ∙ sym (first-of-more test i k) ∙ e in
+    none-if-nothing test k (i + 1) rest p further (omega arith))
     (lt-or-ge p (i + 1)))
     (true-or-false (test i))
 

@@ -1,5 +1,5 @@
--- Rows 11 to 15 and 0 of document 01 ("What the gate says"), said once: over a view of a table, whatever its bytes, whatever the size of
--- an address, and whatever an entry keeps of its connection. The call on bytes and the theorems both cite them.
+-- Rows 11 to 15 and 0 of document 01, said once: over a view of a table, whatever its bytes, whatever the size of an address, and
+-- whatever an entry keeps of its connection. The call on bytes and the theorems both cite them.
 use Prim.Native.Nat.{ℕ, _-_, max}
 use mathlib.Core.Bool.{Bool, _&&_, _||_}
 use Rattle.choice.specs.Choice.{if_then_else_, _<ᵇ_, _≤ᵇ_, _=ᵇ_}
@@ -87,13 +87,28 @@ module _ (B : Bodies) where
   abbrev pub lowestVacant : View → ℕ → Found
   lowestVacant v now = firstFrom (λ p. vacant now (v .entry p)) 0 (v .places)
 
-  -- Rows 13 to 15 and 0: a live connection matches
+  -- Rows 11, 12 and 0: no live connection matches
+
+  -- the entry that an opening makes, with the packet's addresses and ports
+  unfoldable pub openingEntry : ℕ → ℕ → Flow → Segment → Entry
+  openingEntry now side k g = record { key = k; connection = B .opened side g now }
+
+  -- 12: such a SYN, but no place is free or expired; 0: the lowest that is
+  abbrev pub onVacant : Found → ℕ → ℕ → Flow → Segment → Outcome
+  onVacant Nothing now side k g = Blocked 12
+  onVacant (At p) now side k g = Passed p now (openingEntry now side k g)
+
+  -- 11: it is not SYN without ACK from side 0
+  unfoldable pub unmatched : View → ℕ → ℕ → Flow → Segment → Outcome
+  unmatched v now side k g = if opens side g then onVacant (lowestVacant v now) now side k g else Blocked 11
+
+  -- Rows 13, 14, 15 and 0: one does
 
   -- the sender of a match, by the side that it is on: 0 the opener, 1 the answerer
   unfoldable pub senderOf : Entry → ℕ → ℕ
   senderOf e side = if side =ᵇ B .side (e .connection) then 0 else 1
 
-  -- an entry by its connection after a pass: free, if the pass has freed that
+  -- an entry by its connection after a pass: free, addresses and ports too, if the pass has freed that
   unfoldable pub entryWith : Entry → B .Body → Entry
   entryWith e after = if B .freed after then freeEntry else record { key = e .key; connection = after }
 
@@ -101,37 +116,23 @@ module _ (B : Bodies) where
   abbrev pub entryAfter : Entry → ℕ → Segment → ℕ → Entry
   entryAfter e i g now = entryWith e (B .passed (e .connection) i g now)
 
-  -- 13 to 15, or the pass
+  -- 13, 14 and 15, or the pass
   abbrev pub byVerdict : Verdict → Outcome → Outcome
-  byVerdict Pass pass = pass
   byVerdict NotAllowed pass = Blocked (verdictNumber NotAllowed)
   byVerdict SequenceMissed pass = Blocked (verdictNumber SequenceMissed)
   byVerdict AckMissed pass = Blocked (verdictNumber AckMissed)
+  byVerdict Pass pass = pass
 
+  -- on the entry at place p
   unfoldable pub onEntry : Entry → ℕ → ℕ → ℕ → Segment → Outcome
   onEntry e p now side g =
       byVerdict (B .verdict (e .connection) (senderOf e side) g) (Passed p now (entryAfter e (senderOf e side) g now))
 
-  -- Rows 11, 12 and 0: none does
-
-  -- the entry that an opening makes
-  unfoldable pub openingEntry : ℕ → ℕ → Flow → Segment → Entry
-  openingEntry now side k g = record { key = k; connection = B .opened side g now }
-
-  -- 12, or the opening
-  abbrev pub onVacant : Found → ℕ → ℕ → Flow → Segment → Outcome
-  onVacant Nothing now side k g = Blocked 12
-  onVacant (At p) now side k g = Passed p now (openingEntry now side k g)
-
-  -- 11, unless it is an opening
-  unfoldable pub unmatched : View → ℕ → ℕ → Flow → Segment → Outcome
-  unmatched v now side k g = if opens side g then onVacant (lowestVacant v now) now side k g else Blocked 11
-
   -- Rows 11 to 15 and 0, by the clock used
 
   abbrev pub onFound : Found → View → ℕ → ℕ → Flow → Segment → Outcome
-  onFound (At p) v now side k g = onEntry (v .entry p) p now side g
   onFound Nothing v now side k g = unmatched v now side k g
+  onFound (At p) v now side k g = onEntry (v .entry p) p now side g
 
   unfoldable pub onSegment : View → ℕ → ℕ → Flow → Segment → Outcome
   onSegment v now side k g = onFound (search v now side k) v now side k g
