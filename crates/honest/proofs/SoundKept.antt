@@ -126,42 +126,57 @@ free-sound : (clock : ℕ) → SoundEntry clock (freeEntry connections)
 free-sound clock = record { sound = inl refl; typed = free-typed }
 
 entry-later : (clock now : ℕ) (e : Entry connections) → clock ≤ now → SoundEntry clock e → SoundEntry now e
-entry-later clock now e later s = record { sound = ⊎-elim (λ free. inl free) (λ sound. inr (later-sound clock now _ later sound)) (s .sound); typed = s .typed }
+entry-later clock now e later s = record {
+  sound = ⊎-elim (λ free. inl free) (λ sound. inr (later-sound clock now _ later sound)) (s .sound);
+  typed = s .typed;
+}
 
 -- A call
 
 module _ (v : View connections) (a : Ask) where
+  abbrev now : ℕ
+  now = clockUsed connections v a
+
+  abbrev g : Segment
+  g = a .segment
+
+  sound-at : SoundView v → TypedView v → (p : ℕ) → p < v .places → SoundEntry (v .clock) (v .entry p)
+  sound-at sound typed p inside = record { sound = sound p inside; typed = typed p inside }
+
   -- what a pass leaves of a live entry is free or sound
   passed-entry :
-      (e : Entry connections) (i : ℕ) → i < 2 → SoundEntry (v .clock) e → Placeable (a .segment) →
-      clockUsed connections v a < e .connection .deadline → verdictOn (e .connection) i (a .segment) ≡ Pass →
-      SoundEntry (clockUsed connections v a) (entryAfter connections e i (a .segment) (clockUsed connections v a))
+      (e : Entry connections) (i : ℕ) → i < 2 → SoundEntry (v .clock) e → Placeable g → now < e .connection .deadline →
+      verdictOn (e .connection) i g ≡ Pass →
+      SoundEntry now (entryAfter connections e i g now)
   unfolding entryWith
   passed-entry e i known s placeable live verdict =
-      if-cases (SoundEntry (clockUsed connections v a)) (passed (e .connection) i (a .segment) (clockUsed connections v a) .stage =ᵇ 0) _ _
+      let x = s .typed .0 in
+      let ends = s .typed .1 in
+      if-cases (SoundEntry now) (passed (e .connection) i g now .stage =ᵇ 0) _ _
       (λ _. free-sound _)
       (λ in-use. record {
-        sound = inr (passed-sound (v .clock) (e .connection) (s .typed .0) (s .typed .1) not-free i known (a .segment) placeable (clockUsed connections v a) verdict (no-reset in-use));
-        typed = passed-typed (e .connection) (s .typed .0) (s .typed .1) (a .segment) (clockUsed connections v a) i known;
+        sound = inr (passed-sound (v .clock) (e .connection) x ends not-free i known g placeable now verdict (no-reset in-use));
+        typed = passed-typed (e .connection) x ends g now i known;
       })
     where
       not-free : soundConnection (v .clock) (e .connection) ≡ true
-      not-free = ⊎-elim (λ free. absurd (omega (arith, ap (λ (f : Entry connections). f .connection .deadline) free))) (λ sound. sound) (s .sound)
+      not-free =
+          ⊎-elim (λ free. absurd (omega (arith, ap (λ (f : Entry connections). f .connection .deadline) free))) (λ sound. sound) (s .sound)
 
-      no-reset : passed (e .connection) i (a .segment) (clockUsed connections v a) .stage =ᵇ 0 ≡ false → rst (a .segment .flags) ≡ 1 → ⊥
-      no-reset in-use reset = eqb-false _ _ in-use (ap (λ (c : Connection). c .stage) (reset-frees (e .connection) i (a .segment) (clockUsed connections v a) reset))
+      no-reset : passed (e .connection) i g now .stage =ᵇ 0 ≡ false → rst (g .flags) ≡ 1 → ⊥
+      no-reset in-use reset = eqb-false _ _ in-use (ap (λ (c : Connection). c .stage) (reset-frees (e .connection) i g now reset))
 
   -- what a pass leaves: at a place of the view, by the clock used, an entry that is free or sound, with addresses and ports of a free
   -- entry, of the call or of the entry that was there
-  pub record Left (p now : ℕ) (e : Entry connections) : Type 1 where
+  pub record Left (p used : ℕ) (e : Entry connections) : Type 1 where
     pub inside : p < v .places
-    pub clock : now ≡ clockUsed connections v a
-    pub sound : SoundEntry now e
+    pub clock : used ≡ now
+    pub sound : SoundEntry used e
     pub key : (Fits : Flow → Type 0) → Fits noFlow → Fits (a .key) → Fits (v .entry p .key) → Fits (e .key)
 
   abbrev pub LeftBy : Outcome connections → Type 1
   LeftBy (Blocked n) = Unit {1}
-  LeftBy (Passed p now e) = Left p now e
+  LeftBy (Passed p used e) = Left p used e
 
   entry-key :
       (Fits : Flow → Type 0) (e : Entry connections) (c : Connection) → Fits noFlow → Fits (e .key) →
@@ -170,30 +185,30 @@ module _ (v : View connections) (a : Ask) where
   entry-key Fits e c none there = if-either (λ (x : Entry connections). Fits (x .key)) _ _ _ none there
 
   made-left :
-      (p : ℕ) → p < v .places → a .side ≤ 1 → Placeable (a .segment) →
-      Left p (clockUsed connections v a) (openingEntry connections (clockUsed connections v a) (a .side) (a .key) (a .segment))
+      (p : ℕ) → p < v .places → a .side ≤ 1 → Placeable g →
+      Left p now (openingEntry connections now (a .side) (a .key) g)
   unfolding openingEntry
   made-left p inside known placeable = record {
     inside = inside;
     clock = refl;
-    sound = record { sound = inr (opened-sound (a .side) (a .segment) (clockUsed connections v a) known placeable); typed = opened-typed (a .side) (a .segment) (clockUsed connections v a) };
+    sound = record { sound = inr (opened-sound (a .side) g now known placeable); typed = opened-typed (a .side) g now };
     key = λ Fits none asked there. asked;
   }
 
   pub filter-left : SoundView v → TypedView v → a .side ≤ 1 → Placeable (a .segment) → LeftBy (filter connections v a)
-  filter-left sound typed known placeable = go _ (comes connections v (clockUsed connections v a) (a .side) (a .key) (a .segment))
+  filter-left sound typed known placeable = go _ (comes connections v now (a .side) (a .key) g)
     where
-      go :
-          (o : Outcome connections) →
-          Comes connections v (clockUsed connections v a) (a .side) (a .key) (a .segment) o → LeftBy o
+      go : (o : Outcome connections) → Comes connections v now (a .side) (a .key) g o → LeftBy o
       go o (blocks n is _ _) = rw is tt
       go o (makes p is _ inside _) = rw is (made-left p inside known placeable)
-      go o (passes p is _ inside live verdict) = rw is record {
-        inside = inside;
-        clock = refl;
-        sound = passed-entry (v .entry p) _ (sender-known connections (v .entry p) (a .side)) record { sound = sound p inside; typed = typed p inside } placeable live verdict;
-        key = λ Fits none asked there. entry-key Fits (v .entry p) _ none there;
-      }
+      go o (passes p is _ inside live verdict) =
+          let was = sound-at sound typed p inside in
+          rw is record {
+            inside = inside;
+            clock = refl;
+            sound = passed-entry (v .entry p) _ (sender-known connections (v .entry p) (a .side)) was placeable live verdict;
+            key = λ Fits none asked there. entry-key Fits (v .entry p) _ none there;
+          }
 
   -- so a call leaves a sound view sound
   pub filter-sound :
@@ -203,7 +218,9 @@ module _ (v : View connections) (a : Ask) where
     where
       go : (o : Outcome connections) → LeftBy o → SoundView (after connections v o) × TypedView (after connections v o)
       go (Blocked n) left = (sound, typed)
-      go (Passed p now e) left = ((λ q inside. all q inside .sound), (λ q inside. all q inside .typed))
+      go (Passed p used e) left = ((λ q inside. all q inside .sound), (λ q inside. all q inside .typed))
         where
-          all : (q : ℕ) → q < v .places → SoundEntry now (after connections v (Passed p now e) .entry q)
-          all q inside = if-either (SoundEntry now) (q =ᵇ p) e (v .entry q) (left .sound) (entry-later (v .clock) now _ (omega (arith, left .clock)) record { sound = sound q inside; typed = typed q inside })
+          all : (q : ℕ) → q < v .places → SoundEntry used (after connections v (Passed p used e) .entry q)
+          all q inside =
+              let was = sound-at sound typed q inside in
+              if-either (SoundEntry used) (q =ᵇ p) e (v .entry q) (left .sound) (entry-later (v .clock) used _ (omega (arith, left .clock)) was)
