@@ -2,7 +2,7 @@
 use Prim.Native.Nat.{ℕ, zero, suc, _-_, _<_, _≤_}
 use mathlib.Core.Path.{_≡_, refl, sym, ap, _∙_}
 use mathlib.Core.Logic.{_⊎_, inl, inr, ⊎-elim}
-use mathlib.Core.Bool.{Bool, true}
+use mathlib.Core.Bool.{Bool, true, false}
 use native.Mathlib.Omega.{arith}
 use borrow.Author.Tests.{eq-eqb, ne-eqb, eqb-true}
 use Rattle.choice.specs.Choice.{if_then_else_, _=ᵇ_}
@@ -15,12 +15,12 @@ use Rattle.connection.specs.Decision.{opened, passed, carried, repeated, answer
 use Rattle.connection.specs.declared.Connection.{Connection}
 use Rattle.connection.proofs.Sound.{sound-facts}
 use Rattle.rows.specs.Rows as rows
-use Rattle.rows.specs.Rows.{Ask, Entry, View, Passed, senderOf, entryWith, entryAfter, openingEntry, clockUsed, filter, answerOf, placeBy, after}
+use Rattle.rows.specs.Rows.{Ask, Entry, View, Passed, liveMatch, senderOf, entryWith, entryAfter, openingEntry, clockUsed, filter, answerOf, placeBy, after}
 use Rattle.rows.specs.Connections.{connections}
 use Rattle.rows.specs.declared.Found.the-variants.{At, Nothing}
 use Rattle.rows.proofs.Places.{nothing-at, found-by, none-if-nothing}
 use Rattle.rows.proofs.Matches.{EndOf, matches, matches-end, end-matches, far-end, same-end, mutual-end, live-match, unfound-expired, expired-unfound}
-use Rattle.rows.proofs.Rows.{Comes, blocks, passes, makes, comes}
+use Rattle.rows.proofs.Rows.{Comes, blocks, passes, makes, comes, pass-writes, pass-keeps}
 use Rattle.honest.specs.Sound.{SoundView}
 use Rattle.honest.specs.Rules.{Pair, sideOf, keyOf}
 
@@ -70,12 +70,16 @@ module _ (P : Pair) where
     written-here :
         (e : Entry connections) (c : Connection) → p < v .places → e ≡ ours c → c .side ≡ P .side →
         OurEntry (after connections v (Passed p now e)) p c
-    written-here e c inside is same-side = record { inside = inside; there = if-= {a = p} {b = p} e (v .entry p) refl ∙ is; our-side = same-side }
+    written-here e c inside is same-side = record { inside = inside; there = pass-writes connections v p now e ∙ is; our-side = same-side }
 
     written-elsewhere :
         (q : ℕ) (e : Entry connections) (c : Connection) → OurEntry v p c → (q ≡ p → ⊥) →
         OurEntry (after connections v (Passed q now e)) p c
-    written-elsewhere q e c o q≠p = record { inside = o .inside; there = if-=-not {a = p} {b = q} e (v .entry p) (λ p≡q. q≠p (sym p≡q)) ∙ o .there; our-side = o .our-side }
+    written-elsewhere q e c o q≠p = record {
+      inside = o .inside;
+      there = pass-keeps connections v q now e p (λ p≡q. q≠p (sym p≡q)) ∙ o .there;
+      our-side = o .our-side;
+    }
 
     -- a written entry that is ours, not of the pair or expired makes no other of the pair live
     others-stay :
@@ -98,7 +102,9 @@ module _ (P : Pair) where
       pairs (entryAfter connections e i g now) ≡ true →
       entryAfter connections e i g now .connection .deadline ≤ now
   unfolding entryWith
-  pass-stays-out e i g now out = if-either (λ x. pairs x ≡ true → x .connection .deadline ≤ now) _ _ _ (λ m. omega arith) (λ m. go m (passed-side (e .connection) i g now))
+  pass-stays-out e i g now out =
+      if-either (λ x. pairs x ≡ true → x .connection .deadline ≤ now) _ _ _
+      (λ m. omega arith) (λ m. go m (passed-side (e .connection) i g now))
     where
       go :
           pairs (record { key = e .key; connection = passed (e .connection) i g now }) ≡ true →
@@ -115,17 +121,25 @@ module _ (P : Pair) where
   unfolding openingEntry opened
   made-matched c now side k g our-side from-0 m =
       let made : Entry connections = record { key = k; connection = opened side g now } in
-      end-matches connections (ours c) side k (mutual-end connections made (ours c) (omega arith) (same-end connections made (sym our-side) refl (matches-end connections made (P .side) (P .key) m)))
+      let end = same-end connections made (sym our-side) refl (matches-end connections made (P .side) (P .key) m) in
+      end-matches connections (ours c) side k (mutual-end connections made (ours c) (omega arith) end)
 
   module _ (known : P .side ≤ 1) (v : View connections) (sound : SoundView v) where
+    abbrev used : Ask → ℕ
+    used a = clockUsed connections v a
+
     side-known : (r : ℕ) → r < v .places → v .entry r .connection .side ≤ 1
-    side-known r inside = ⊎-elim (λ is. omega (arith, ap (λ (e : Entry connections). e .connection .side) is)) (λ s. sound-facts (v .clock) _ s .side) (sound r inside)
+    side-known r inside =
+        ⊎-elim (λ is. omega (arith, ap (λ (e : Entry connections). e .connection .side) is)) (λ s. sound-facts (v .clock) _ s .side)
+        (sound r inside)
 
     -- what an end of the pair matches, the opener matches
     asked-pairs :
-        (e : Entry connections) (i : ℕ) (a : Ask) → e .connection .side ≤ 1 → AskOf i a → matches connections e (a .side) (a .key) ≡ true →
+        (e : Entry connections) (i : ℕ) (a : Ask) → e .connection .side ≤ 1 → AskOf i a →
+        matches connections e (a .side) (a .key) ≡ true →
         pairs e ≡ true
-    asked-pairs e i a e-known asked m = end-matches connections e (P .side) (P .key) (go (asks-as i a asked) (matches-end connections e (a .side) (a .key) m))
+    asked-pairs e i a e-known asked m =
+        end-matches connections e (P .side) (P .key) (go (asks-as i a asked) (matches-end connections e (a .side) (a .key) m))
       where
         go : Asks i a → EndOf connections e (a .side) (a .key) → EndOf connections e (P .side) (P .key)
         go (as-opener _ s k) end = same-end connections e s k end
@@ -149,35 +163,44 @@ module _ (P : Pair) where
 
     -- an arrival finds the opening's place, as its end's
     pub arrival-found :
-        (p i : ℕ) (c : Connection) (a : Ask) → OurEntry v p c → OthersExpired v p → AskOf i a → clockUsed connections v a < c .deadline →
-        (rows.search connections v (clockUsed connections v a) (a .side) (a .key) ≡ At p) × (senderOf connections (ours c) (a .side) ≡ i)
+        (p i : ℕ) (c : Connection) (a : Ask) → OurEntry v p c → OthersExpired v p → AskOf i a → used a < c .deadline →
+        (rows.search connections v (used a) (a .side) (a .key) ≡ At p) × (senderOf connections (ours c) (a .side) ≡ i)
     arrival-found p i c a o others asked live-now = (
-      found-by _ (v .places) 0 p (omega arith) (omega (arith, o .inside))
-          (rw (o .there) (live-match connections (clockUsed connections v a) (a .side) (a .key) _ live-now (ours-matches c i a (o .our-side) asked)))
-          (λ r low less. expired-unfound connections (clockUsed connections v a) (a .side) (a .key) _ (λ m.
-          omega (arith, others r (omega (arith, less, o .inside)) (λ (e : r ≡ p). omega (arith, less)) (asked-pairs _ i a (side-known r (omega (arith, less, o .inside))) asked m)))),
+      found-by _ (v .places) 0 p (omega arith) (omega (arith, o .inside)) found-there (λ r low less. none-before r less),
       ours-sender c i a (o .our-side) asked,
     )
+      where
+        found-there : liveMatch connections (used a) (a .side) (a .key) (v .entry p) ≡ true
+        found-there = rw (o .there) (live-match connections (used a) (a .side) (a .key) _ live-now (ours-matches c i a (o .our-side) asked))
+
+        none-before : (r : ℕ) → r < p → liveMatch connections (used a) (a .side) (a .key) (v .entry r) ≡ false
+        none-before r less =
+            let inside : r < v .places = omega (arith, o .inside) in
+            expired-unfound connections (used a) (a .side) (a .key) _ (λ m.
+            omega (arith, others r inside (λ (e : r ≡ p). omega (arith, less)) (asked-pairs _ i a (side-known r inside) asked m)))
 
     -- an opening that found no live match: where its entry stands, and that no other of the pair is live
     pub record Made (a : Ask) : Type 0 where
       pub place : ℕ
       pub entry : Entry connections
-      pub is : filter connections v a ≡ Passed place (clockUsed connections v a) entry
-      pub ours : OurEntry (after connections v (Passed place (clockUsed connections v a) entry)) place (opened (P .side) (a .segment) (clockUsed connections v a))
-      pub others : OthersExpired (after connections v (Passed place (clockUsed connections v a) entry)) place
+      pub is : filter connections v a ≡ Passed place (used a) entry
+      pub ours : OurEntry (after connections v (Passed place (used a) entry)) place (opened (P .side) (a .segment) (used a))
+      pub others : OthersExpired (after connections v (Passed place (used a) entry)) place
 
     pub opening-made :
-        (a : Ask) → AskOf 0 a → rows.search connections v (clockUsed connections v a) (a .side) (a .key) ≡ Nothing →
+        (a : Ask) → AskOf 0 a → rows.search connections v (used a) (a .side) (a .key) ≡ Nothing →
         answerOf connections (filter connections v a) ≡ 0 →
         Made a
     unfolding openingEntry opened
-    opening-made a asked none passed-0 = go (comes connections v (clockUsed connections v a) (a .side) (a .key) (a .segment)) (asks-as 0 a asked)
+    opening-made a asked none passed-0 = go (comes connections v (used a) (a .side) (a .key) (a .segment)) (asks-as 0 a asked)
       where
-        now : ℕ
-        now = clockUsed connections v a
+        none-live : a .side ≡ P .side → a .key ≡ P .key → (r : ℕ) → r < v .places → pairs (v .entry r) ≡ true → v .entry r .connection .deadline ≤ used a
+        none-live s k r inside m =
+            let end = same-end connections (v .entry r) (sym s) (sym k) (matches-end connections (v .entry r) (P .side) (P .key) m) in
+            unfound-expired connections (used a) (a .side) (a .key) (v .entry r)
+            (none-if-nothing _ (v .places) 0 none r (omega arith) (omega arith)) (end-matches connections (v .entry r) (a .side) (a .key) end)
 
-        go : Comes connections v (clockUsed connections v a) (a .side) (a .key) (a .segment) (filter connections v a) → Asks 0 a → Made a
+        go : Comes connections v (used a) (a .side) (a .key) (a .segment) (filter connections v a) → Asks 0 a → Made a
         go (blocks n is low high) _ = absurd (omega (arith, low, ap (answerOf connections) is, passed-0))
         go (passes p is found _ _ _) _ = nothing-at p (sym none ∙ found)
         go (makes p is _ room _) (as-answerer z _ _) = absurd (omega arith)
@@ -185,41 +208,44 @@ module _ (P : Pair) where
           place = p;
           entry = _;
           is = is;
-          ours = written-here v p (clockUsed connections v a) _ _ room (λ n. record { key = k n; connection = opened (s n) (a .segment) (clockUsed connections v a) }) refl;
-          others = others-stay v p (clockUsed connections v a) p _
-              (λ r inside _ m. unfound-expired connections (clockUsed connections v a) (a .side) (a .key) (v .entry r) (none-if-nothing _ (v .places) 0 none r (omega arith) (omega arith))
-              (end-matches connections (v .entry r) (a .side) (a .key) (same-end connections (v .entry r) (sym s) (sym k) (matches-end connections (v .entry r) (P .side) (P .key) m))))
-              (λ out. absurd (out refl));
+          ours = written-here v p (used a) _ _ room (λ n. record { key = k n; connection = opened (s n) (a .segment) (used a) }) refl;
+          others = others-stay v p (used a) p _ (λ r inside _ m. none-live s k r inside m) (λ out. absurd (out refl));
         }
 
     -- a pass elsewhere, while ours is live, leaves ours as it is and makes no other of the pair live
     pub pass-elsewhere :
-        (number : ℕ → ℕ) (p : ℕ) (c : Connection) (a : Ask) → OurEntry v p c → OthersExpired v p → clockUsed connections v a < c .deadline →
+        (number : ℕ → ℕ) (p : ℕ) (c : Connection) (a : Ask) → OurEntry v p c → OthersExpired v p → used a < c .deadline →
         answerOf connections (filter connections v a) ≡ 0 → (placeBy number (filter connections v a) ≡ number p → ⊥) →
         OurEntry (after connections v (filter connections v a)) p c × OthersExpired (after connections v (filter connections v a)) p
-    pass-elsewhere number p c a o others live-now passed-0 elsewhere = go (comes connections v (clockUsed connections v a) (a .side) (a .key) (a .segment))
+    pass-elsewhere number p c a o others live-now passed-0 elsewhere = go (comes connections v (used a) (a .side) (a .key) (a .segment))
       where
-        later : Expired v p (clockUsed connections v a)
+        later : Expired v p (used a)
         later r inside r≠p m = omega (arith, others r inside r≠p m)
 
+        -- ours would be found
+        ours-found : rows.search connections v (used a) (a .side) (a .key) ≡ Nothing → matches connections (ours c) (a .side) (a .key) ≡ true → ⊥
+        ours-found none m =
+            let unfound = none-if-nothing _ (v .places) 0 none p (omega arith) (omega (arith, o .inside)) in
+            false-true (sym (rw (o .there) at unfound) ∙ live-match connections (used a) (a .side) (a .key) _ live-now m)
+
         go :
-            Comes connections v (clockUsed connections v a) (a .side) (a .key) (a .segment) (filter connections v a) →
+            Comes connections v (used a) (a .side) (a .key) (a .segment) (filter connections v a) →
             OurEntry (after connections v (filter connections v a)) p c × OthersExpired (after connections v (filter connections v a)) p
         go (blocks n is low high) = absurd (omega (arith, low, ap (answerOf connections) is, passed-0))
         go (passes q is found inside live-there _) =
             let q≠p : q ≡ p → ⊥ = λ e. elsewhere (ap (placeBy number) is ∙ ap number e) in
+            let out : pairs (v .entry q) ≡ true → ⊥ = λ m. absurd (omega (arith, others q inside q≠p m, live-there)) in
             rw is (
-              written-elsewhere v p (clockUsed connections v a) q _ c o q≠p,
-              others-stay v p (clockUsed connections v a) q _ later
-                  (λ _. pass-stays-out (v .entry q) _ (a .segment) (clockUsed connections v a) (λ m. absurd (omega (arith, others q inside q≠p m, live-there)))),
+              written-elsewhere v p (used a) q _ c o q≠p,
+              others-stay v p (used a) q _ later (λ _. pass-stays-out (v .entry q) _ (a .segment) (used a) out),
             )
         go (makes q is none _ opening) =
             let q≠p : q ≡ p → ⊥ = λ e. elsewhere (ap (placeBy number) is ∙ ap number e) in
             let from-0 = eqb-true (a .side) 0 (&&-true (a .side =ᵇ 0) _ opening .0) in
             rw is (
-              written-elsewhere v p (clockUsed connections v a) q _ c o q≠p,
-              others-stay v p (clockUsed connections v a) q _ later
-                  (λ _ m. false-true (sym (rw (o .there) at (none-if-nothing _ (v .places) 0 none p (omega arith) (omega (arith, o .inside)))) ∙ live-match connections (clockUsed connections v a) (a .side) (a .key) _ live-now (made-matched c (clockUsed connections v a) (a .side) (a .key) (a .segment) (o .our-side) from-0 m))),
+              written-elsewhere v p (used a) q _ c o q≠p,
+              others-stay v p (used a) q _ later
+                  (λ _ m. absurd (ours-found none (made-matched c (used a) (a .side) (a .key) (a .segment) (o .our-side) from-0 m))),
             )
 
     -- a pass on ours: the entry that it leaves, and the others as before
