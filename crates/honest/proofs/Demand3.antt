@@ -64,18 +64,30 @@ module _ (M : Machine) (Sound : M .State → Type 0) (keeps : KeepsTo M Sound) (
   -- What a call does to the table
 
   module _ (t : Told M) (kept : Table-kept t) (q : M .Call) where
+    -- the table before it, and the clock used
+    abbrev v : View connections
+    v = M .view (t .state)
+
+    abbrev used : Ask → ℕ
+    used a = clockUsed connections v a
+
     -- the connection is live at the call, told from the calls
     abbrev LiveNow : Type 0
     LiveNow = max (clockIn (M .reads q)) (t .passClock) < t .until
 
     -- then a call that asks is not passed on the opening's entry
     abbrev Elsewhere : Type 0
-    Elsewhere = (a : Ask) → M .reads q ≡ asks a → t .opened ≡ true → LiveNow → passes M t q ≡ true → M .run (t .state) q .place ≡ t .place → ⊥
+    Elsewhere =
+        (a : Ask) → M .reads q ≡ asks a → t .opened ≡ true → LiveNow → passes M t q ≡ true →
+        M .run (t .state) q .place ≡ t .place → ⊥
 
     -- a call that does not pass leaves the table as it was
-    blocked-same : passes M t q ≡ false → M .view (M .run (t .state) q .next) ≡ M .view (t .state)
+    blocked-same : passes M t q ≡ false → M .view (M .run (t .state) q .next) ≡ v
     unfolding passes
     blocked-same e = keeps .blocked-keeps (t .state) q (eqb-false _ _ e)
+
+    sound-before : SoundView v
+    sound-before = keeps .sound-view (t .state) (kept .sound)
 
     passed-0 : passes M t q ≡ true → M .run (t .state) q .answer ≡ 0
     unfolding passes
@@ -85,9 +97,9 @@ module _ (M : Machine) (Sound : M .State → Type 0) (keeps : KeepsTo M Sound) (
     pub record Asked : Type 0 where
       pub ask : Ask
       pub read : M .reads q ≡ asks ask
-      pub answer : answerOf connections (filter connections (M .view (t .state)) ask) ≡ 0
-      pub place : M .run (t .state) q .place ≡ placeBy (M .number) (filter connections (M .view (t .state)) ask)
-      pub table : M .view (M .run (t .state) q .next) ≡ after connections (M .view (t .state)) (filter connections (M .view (t .state)) ask)
+      pub answer : answerOf connections (filter connections v ask) ≡ 0
+      pub place : M .run (t .state) q .place ≡ placeBy (M .number) (filter connections v ask)
+      pub table : M .view (M .run (t .state) q .next) ≡ after connections v (filter connections v ask)
 
     asked : (a : Ask) → M .reads q ≡ asks a → passes M t q ≡ true → Asked
     asked a is e = record {
@@ -101,8 +113,8 @@ module _ (M : Machine) (Sound : M .State → Type 0) (keeps : KeepsTo M Sound) (
     -- the header clock is the largest clock used at a pass
     clock-after : Asked → passes M t q ≡ true → M .view (M .run (t .state) q .next) .clock ≡ nextClock M t q
     clock-after x e =
-        let used = ap (λ (b : View connections). b .clock) (x .table) ∙ pass-clock P (M .view (t .state)) (x .ask) (x .answer) in
-        let given = ap (clockIn) (x .read) in
+        let used = ap (λ (b : View connections). b .clock) (x .table) ∙ pass-clock P v (x .ask) (x .answer) in
+        let given = ap clockIn (x .read) in
         let next : nextClock M t q ≡ max (clockIn (M .reads q)) (t .passClock) = if-true _ _ _ e in
         omega (arith, used, given, next, kept .clock)
 
@@ -110,7 +122,7 @@ module _ (M : Machine) (Sound : M .State → Type 0) (keeps : KeepsTo M Sound) (
 
     -- one that leaves the table and the pass clock as they were
     unmoved-phase :
-        M .view (M .run (t .state) q .next) ≡ M .view (t .state) → nextClock M t q ≡ t .passClock →
+        M .view (M .run (t .state) q .next) ≡ v → nextClock M t q ≡ t .passClock →
         Phase t → Phase (afterCall M t q other)
     unfolding afterCall
     unmoved-phase same clock (before closed none) = before closed none
@@ -125,7 +137,7 @@ module _ (M : Machine) (Sound : M .State → Type 0) (keeps : KeepsTo M Sound) (
       told-early = al .told-early;
     }
 
-    unmoved : M .view (M .run (t .state) q .next) ≡ M .view (t .state) → nextClock M t q ≡ t .passClock → Table-kept (afterCall M t q other)
+    unmoved : M .view (M .run (t .state) q .next) ≡ v → nextClock M t q ≡ t .passClock → Table-kept (afterCall M t q other)
     unfolding afterCall
     unmoved same clock = record {
       sound = keeps .sound-kept (t .state) q (kept .sound);
@@ -143,9 +155,9 @@ module _ (M : Machine) (Sound : M .State → Type 0) (keeps : KeepsTo M Sound) (
     -- a connection that is live as told is live by its deadline
     live-now :
         (c : Connection) → Alive t c → (a : Ask) → M .reads q ≡ asks a → LiveNow →
-        clockUsed connections (M .view (t .state)) a < c .deadline
+        used a < c .deadline
     live-now c al a read live =
-        let given = ap (clockIn) read in
+        let given = ap clockIn read in
         omega (arith, kept .clock, al .told-early)
 
     other-phase : Elsewhere → Asked → passes M t q ≡ true → Phase t → Phase (afterCall M t q other)
@@ -155,9 +167,12 @@ module _ (M : Machine) (Sound : M .State → Type 0) (keeps : KeepsTo M Sound) (
     other-phase fair x e (alive opened-t c al) =
         ⊎-elim
         (λ (live : LiveNow).
-        let elsewhere : placeBy (M .number) (filter connections (M .view (t .state)) (x .ask)) ≡ M .number (al .place) → ⊥ = λ same. fair (x .ask) (x .read) opened-t live e (x .place ∙ same ∙ al .numbered) in
+        let elsewhere : placeBy (M .number) (filter connections v (x .ask)) ≡ M .number (al .place) → ⊥ =
+        λ same. fair (x .ask) (x .read) opened-t live e (x .place ∙ same ∙ al .numbered) in
         let now = live-now c al (x .ask) (x .read) live in
-        let r = pass-elsewhere P known (M .view (t .state)) (keeps .sound-view (t .state) (kept .sound)) (M .number) (al .place) c (x .ask) (al .ours) (al .others) now (x .answer) elsewhere in
+        let r =
+        pass-elsewhere P known v sound-before (M .number) (al .place) c (x .ask) (al .ours) (al .others) now (x .answer)
+        elsewhere in
         alive opened-t c record {
           place = al .place;
           numbered = al .numbered;
@@ -179,7 +194,8 @@ module _ (M : Machine) (Sound : M .State → Type 0) (keeps : KeepsTo M Sound) (
         (true-or-false (passes M t q))
       where
         by-reading : (r : Reading Ask) → M .reads q ≡ r → passes M t q ≡ true → Table-kept (afterCall M t q other)
-        by-reading (refused n) is e = absurd (keeps .refusal-blocks q n is (sym (keeps .refusal-answered (t .state) q n (kept .sound) is) ∙ passed-0 e))
+        by-reading (refused n) is e =
+            absurd (keeps .refusal-blocks q n is (sym (keeps .refusal-answered (t .state) q n (kept .sound) is) ∙ passed-0 e))
         by-reading (asks a) is e =
             let x = asked a is e in
             record {
@@ -192,19 +208,16 @@ module _ (M : Machine) (Sound : M .State → Type 0) (keeps : KeepsTo M Sound) (
     -- A call with a segment p of the pair's, that passes
 
     module _ (p : LineSegment) (a : Ask) (read : M .reads q ≡ asks a) (brings : a .segment ≡ onWire p) (e : passes M t q ≡ true) where
-      sound-b : SoundView (M .view (t .state))
-      sound-b = keeps .sound-view (t .state) (kept .sound)
-
-      answer-0 : answerOf connections (filter connections (M .view (t .state)) a) ≡ 0
+      answer-0 : answerOf connections (filter connections v a) ≡ 0
       answer-0 = sym (keeps .answered (t .state) q a (kept .sound) read) ∙ passed-0 e
 
       -- what is told of the deadline is no later than the entry's
       told-before :
           (place : ℕ) (c : Connection) → c .stage ≡ stageOf (p ∷ t .passed) →
-          c .deadline ≡ clockUsed connections (M .view (t .state)) a + lifeOf (c .stage) →
+          c .deadline ≡ used a + lifeOf (c .stage) →
           afterSegment M t q place p .until ≤ c .deadline
       told-before place c stage deadline =
-          let given = ap (clockIn) read in
+          let given = ap clockIn read in
           let next : nextClock M t q ≡ max (clockIn (M .reads q)) (t .passClock) = if-true _ _ _ e in
           let told-then : afterSegment M t q place p .until ≡ nextClock M t q + lifeOf (stageOf (p ∷ t .passed)) = if-true _ _ _ e in
           let life = ap lifeOf stage in
@@ -215,7 +228,7 @@ module _ (M : Machine) (Sound : M .State → Type 0) (keeps : KeepsTo M Sound) (
           (place spot : ℕ) (c : Connection) → M .number spot ≡ place →
           OurEntry P (M .view (M .run (t .state) q .next)) spot c → OthersExpired P (M .view (M .run (t .state) q .next)) spot →
           Holds c (p ∷ t .passed) → Heard P (p ∷ t .passed) →
-          c .deadline ≡ clockUsed connections (M .view (t .state)) a + lifeOf (c .stage) →
+          c .deadline ≡ used a + lifeOf (c .stage) →
           Table-kept (afterSegment M t q place p)
       segment-kept place spot c numbered ours others holds heard deadline =
           let more : (if passes M t q then p ∷ t .passed else t .passed) ≡ p ∷ t .passed = if-true _ _ _ e in
@@ -236,31 +249,35 @@ module _ (M : Machine) (Sound : M .State → Type 0) (keeps : KeepsTo M Sound) (
       -- the opening
       pub opening-kept :
           AskOf P 0 a → p .from ≡ 0 → p .flags ≡ SYN → Formed p → p .start ≡ P .start 0 → t .passed ≡ [] →
-          rows.search connections (M .view (t .state)) (clockUsed connections (M .view (t .state)) a) (a .side) (a .key) ≡ Nothing →
+          rows.search connections v (used a) (a .side) (a .key) ≡ Nothing →
           Table-kept (afterSegment M t q (M .run (t .state) q .place) p)
       opening-kept asked-0 opener a-syn formed begins none unfound =
-          let made = opening-made P known (M .view (t .state)) sound-b a asked-0 unfound answer-0 in
-          let c : Connection = opened (P .side) (a .segment) (clockUsed connections (M .view (t .state)) a) in
-          let renewed = opened-renewed (P .side) (a .segment) (clockUsed connections (M .view (t .state)) a) in
-          let holds : Holds (opened (P .side) (a .segment) (clockUsed connections (M .view (t .state)) a)) (p ∷ t .passed) = rw (brings, none) (opened-holds p opener a-syn formed (P .side) (clockUsed connections (M .view (t .state)) a)) in
+          let made = opening-made P known v sound-before a asked-0 unfound answer-0 in
+          let c : Connection = opened (P .side) (a .segment) (used a) in
+          let renewed = opened-renewed (P .side) (a .segment) (used a) in
+          let holds : Holds (opened (P .side) (a .segment) (used a)) (p ∷ t .passed) =
+          rw (brings, none) (opened-holds p opener a-syn formed (P .side) (used a)) in
           let end = ap (λ (n : Numbers). n .end) (opener-begins p opener a-syn formed) in
           let heard : Heard P (p ∷ t .passed) = rw none (quiet (opened-unanswered p opener a-syn formed) (omega (arith, end, begins))) in
           let place = keeps .placed (t .state) q a (kept .sound) read ∙ ap (placeBy (M .number)) (made .is) in
-          let table = keeps .left (t .state) q a (kept .sound) read ∙ ap (after connections (M .view (t .state))) (made .is) in
-          segment-kept (M .run (t .state) q .place) (made .place) c (sym place) (rw table (made .ours)) (rw table (made .others)) holds heard (renewed .0)
+          let table = keeps .left (t .state) q a (kept .sound) read ∙ ap (after connections v) (made .is) in
+          segment-kept (M .run (t .state) q .place) (made .place) c (sym place) (rw table (made .ours)) (rw table (made .others))
+          holds heard (renewed .0)
 
     -- An arrival at the live entry
 
-    module _ (p : LineSegment) (a : Ask) (read : M .reads q ≡ asks a) (brings : a .segment ≡ onWire p) (asked-p : AskOf P (p .from) a) (no-reset : rst (p .flags) ≡ 1 → ⊥) (c : Connection) (al : Alive t c) (live : LiveNow) (verdict : verdictOn c (p .from) (onWire p) ≡ Pass) where
+    module _
+        (p : LineSegment) (a : Ask) (read : M .reads q ≡ asks a) (brings : a .segment ≡ onWire p) (asked-p : AskOf P (p .from) a)
+        (no-reset : rst (p .flags) ≡ 1 → ⊥) (c : Connection) (al : Alive t c) (live : LiveNow)
+        (verdict : verdictOn c (p .from) (onWire p) ≡ Pass) where
       abbrev left-entry : Entry connections
-      left-entry = ours P (passed c (p .from) (onWire p) (clockUsed connections (M .view (t .state)) a))
+      left-entry = ours P (passed c (p .from) (onWire p) (used a))
 
-      filter-passes : filter connections (M .view (t .state)) a ≡ Passes (al .place) (clockUsed connections (M .view (t .state)) a) left-entry
+      filter-passes : filter connections v a ≡ Passes (al .place) (used a) left-entry
       unfolding entryWith
       filter-passes =
-          let v = M .view (t .state) in
-          let now : ℕ = clockUsed connections v a in
-          let found = arrival-found P known v (keeps .sound-view (t .state) (kept .sound)) (al .place) (p .from) c a (al .ours) (al .others) asked-p (live-now c al a read live) in
+          let now : ℕ = used a in
+          let found = arrival-found P known v sound-before (al .place) (p .from) c a (al .ours) (al .others) asked-p (live-now c al a read live) in
           let in-use = passed-renewed c (p .from) (onWire p) now no-reset .life in
           let sender : senderOf connections (ours P c) (a .side) ≡ p .from = found .1 in
           onSegment-by-search connections v now (a .side) (a .key) (a .segment) _ (found .0)
@@ -282,11 +299,12 @@ module _ (M : Machine) (Sound : M .State → Type 0) (keeps : KeepsTo M Sound) (
           ((now : ℕ) → Holds (passed c (p .from) (onWire p) now) (p ∷ t .passed)) → Heard P (p ∷ t .passed) →
           Table-kept (afterSegment M t q (t .place) p)
       arrival-kept holds-after heard-after =
-          let c' : Connection = passed c (p .from) (onWire p) (clockUsed connections (M .view (t .state)) a) in
-          let renewed = passed-renewed c (p .from) (onWire p) (clockUsed connections (M .view (t .state)) a) no-reset in
-          let table = keeps .left (t .state) q a (kept .sound) read ∙ ap (after connections (M .view (t .state))) filter-passes in
-          let r = pass-on-ours P known (M .view (t .state)) (keeps .sound-view (t .state) (kept .sound)) (al .place) c c' (clockUsed connections (M .view (t .state)) a) (al .ours) (al .others) (omega arith) (renewed .side ∙ al .ours .our-side) in
-          segment-kept p a read brings arrival-passes (t .place) (al .place) c' (al .numbered) (rw table (r .0)) (rw table (r .1)) (holds-after (clockUsed connections (M .view (t .state)) a)) heard-after (renewed .deadline)
+          let c' : Connection = passed c (p .from) (onWire p) (used a) in
+          let renewed = passed-renewed c (p .from) (onWire p) (used a) no-reset in
+          let table = keeps .left (t .state) q a (kept .sound) read ∙ ap (after connections v) filter-passes in
+          let r = pass-on-ours P known v sound-before (al .place) c c' (used a) (al .ours) (al .others) (omega arith) (renewed .side ∙ al .ours .our-side) in
+          segment-kept p a read brings arrival-passes (t .place) (al .place) c' (al .numbered) (rw table (r .0)) (rw table (r .1))
+          (holds-after (used a)) heard-after (renewed .deadline)
 
   -- The events, one by one
 
@@ -442,7 +460,9 @@ module _ (M : Machine) (Sound : M .State → Type 0) (keeps : KeepsTo M Sound) (
       let r = kept-along sound L (legal .1) in (after-delivery k p L (r .0) (legal .0), r .1)
 
 -- nothing is asked of a call on another part of the table
-pub apart-fair : (M : Machine) (s₀ : M .State) (P : Pair) (q : M .Call) (L : List (Event (M .Call))) → M .reads q ≡ apart → FairCall M s₀ P other q L
+pub apart-fair :
+    (M : Machine) (s₀ : M .State) (P : Pair) (q : M .Call) (L : List (Event (M .Call))) → M .reads q ≡ apart →
+    FairCall M s₀ P other q L
 apart-fair M s₀ P q L is = λ on-ours. on-ours .not-apart is
 
 -- two honest ends are never blocked

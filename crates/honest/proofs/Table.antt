@@ -194,7 +194,9 @@ module _ (P : Pair) where
     unfolding openingEntry opened
     opening-made a asked none passed-0 = go (comes connections v (used a) (a .side) (a .key) (a .segment)) (asks-as 0 a asked)
       where
-        none-live : a .side ≡ P .side → a .key ≡ P .key → (r : ℕ) → r < v .places → pairs (v .entry r) ≡ true → v .entry r .connection .deadline ≤ used a
+        none-live :
+            a .side ≡ P .side → a .key ≡ P .key → (r : ℕ) → r < v .places → pairs (v .entry r) ≡ true →
+            v .entry r .connection .deadline ≤ used a
         none-live s k r inside m =
             let end = same-end connections (v .entry r) (sym s) (sym k) (matches-end connections (v .entry r) (P .side) (P .key) m) in
             unfound-expired connections (used a) (a .side) (a .key) (v .entry r)
