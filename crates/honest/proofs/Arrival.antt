@@ -55,7 +55,9 @@ pub data Heard (P : Pair) (h : List LineSegment) : Type 0 where
   quiet : Unanswered h → P .start 0 + 1 ≤ numbersOf 0 h .end → Heard P h
   both : Answered h → ((i : ℕ) → i < 2 → P .start i + 1 ≤ numbersOf i h .end) → Heard P h
 
-module _ {Call : Type 0} (P : Pair) (h : List LineSegment) (Arrived : ℕ → LineSegment → Type 0) (L : List (Event Call)) (inv : Protocol P h Arrived L) (c : Connection) (holds : Holds c h) (k : ℕ) (p : LineSegment) (s : ℕ) (sent : SentWith k p s L) where
+module _
+    {Call : Type 0} (P : Pair) (h : List LineSegment) (Arrived : ℕ → LineSegment → Type 0) (L : List (Event Call))
+    (inv : Protocol P h Arrived L) (c : Connection) (holds : Holds c h) (k : ℕ) (p : LineSegment) (s : ℕ) (sent : SentWith k p s L) where
   fact : Fact P h p s L
   fact = inv .facts k p s sent
 
@@ -74,7 +76,8 @@ module _ {Call : Type 0} (P : Pair) (h : List LineSegment) (Arrived : ℕ → Li
 
     near : Near (numbersOf (p .from) h .end) (p .start)
     near =
-        start-near (numbersOf (p .from) h) (numbersOf (1 - p .from) h) (p .start) (p .length) (spans h a (p .from) (fact .end-known)) (spans h a (1 - p .from) other-known)
+        start-near (numbersOf (p .from) h) (numbersOf (1 - p .from) h) (p .start) (p .length)
+        (spans h a (p .from) (fact .end-known)) (spans h a (1 - p .from) other-known)
         (Bounds.bound-II P h Arrived L inv k p s sent in-order a begun) (Bounds.bound-I P h Arrived L inv k p s sent in-order a begun)
 
     near-ack : ack (p .flags) ≡ 1 → Near (numbersOf (1 - p .from) h .end) (p .acked)
@@ -86,7 +89,8 @@ module _ {Call : Type 0} (P : Pair) (h : List LineSegment) (Arrived : ℕ → Li
     later-passing = record {
       verdict = judged-answered c h holds p (fact .end-known) a near near-ack ∙ pass;
       holds-after = carried-holds c h holds p (fact .end-known) (fact .formed) (fact .no-reset) pass a;
-      heard-after = both (carried-answered c h holds p (fact .end-known) (fact .formed) (fact .no-reset) pass a) (λ i known. omega (arith, begun i known, rises-more p h .end i));
+      heard-after = both (carried-answered c h holds p (fact .end-known) (fact .formed) (fact .no-reset) pass a)
+          (λ i known. omega (arith, begun i known, rises-more p h .end i));
     }
 
   -- in stage 1
@@ -103,7 +107,9 @@ module _ {Call : Type 0} (P : Pair) (h : List LineSegment) (Arrived : ℕ → Li
     first-verdict : verdictOn c (p .from) (onWire p) ≡ Pass
     first-verdict =
         judged-unanswered c h holds p (fact .end-known) u
-        (λ opener. let begins : P .start (p .from) ≡ P .start 0 = ap (P .start) opener in record { low = omega (arith, x .rule .start, opener-end); high = omega (arith, x .rule .start, opener-end) })
+        (λ opener.
+        let begins : P .start (p .from) ≡ P .start 0 = ap (P .start) opener in
+        record { low = omega (arith, x .rule .start, opener-end); high = omega (arith, x .rule .start, opener-end) })
         (λ answerer. record { low = omega (arith, x .rule .acks answerer, opener-end); high = omega (arith, x .rule .acks answerer, opener-end) })
         ∙ first-pass
 

@@ -20,7 +20,9 @@ use Rattle.honest.specs.Rules.{Event, Pair, InOrder, highest, ackOf, end
 use Rattle.honest.proofs.Lists.{In, highest-lub, endBy-mine, numbers-up, end-lub}
 use Rattle.honest.proofs.Sends.{SentWith, ackFrom, Later, First, Fact, Protocol, FirstFacts, first-facts, answered-in, passed-sent}
 
-module _ {Call : Type 0} (P : Pair) (h : List LineSegment) (Arrived : ℕ → LineSegment → Type 0) (L : List (Event Call)) (inv : Protocol P h Arrived L) where
+module _
+    {Call : Type 0} (P : Pair) (h : List LineSegment) (Arrived : ℕ → LineSegment → Type 0) (L : List (Event Call))
+    (inv : Protocol P h Arrived L) where
   module _ (k : ℕ) (p : LineSegment) (s : ℕ) (sent : SentWith k p s L) (in-order : InOrder Arrived (p .from) k) where
     fact : Fact P h p s L
     fact = inv .facts k p s sent
@@ -102,7 +104,8 @@ module _ {Call : Type 0} (P : Pair) (h : List LineSegment) (Arrived : ℕ → Li
       unfolding judge
       judged-pass =
           let later : stageOf h ≡ 1 → ⊥ = λ (e : stageOf h ≡ 1). omega (arith, both-heard .stage) in
-          let in-range : boundsI-II (numbersOf (p .from) h) (numbersOf (1 - p .from) h) (p .start) (p .length) ≡ true = rw (le-leb _ _ bound-I, le-leb _ _ bound-II) in
+          let in-range : boundsI-II (numbersOf (p .from) h) (numbersOf (1 - p .from) h) (p .start) (p .length) ≡ true =
+          rw (le-leb _ _ bound-I, le-leb _ _ bound-II) in
           if-=-not _ _ later ∙ if-false _ _ _ (rw in-range) ∙ by-ack (eqb (ack (p .flags)) 1) refl
         where
           by-ack :
@@ -110,7 +113,8 @@ module _ {Call : Type 0} (P : Pair) (h : List LineSegment) (Arrived : ℕ → Li
               (if (ack (p .flags) =ᵇ 1) && not (boundsIII-IV ackRange (numbersOf (1 - p .from) h) (p .acked)) then AckMissed else Pass) ≡ Pass
           by-ack true e =
               let acks = eqb-true (ack (p .flags)) 1 e in
-              let in-range : boundsIII-IV ackRange (numbersOf (1 - p .from) h) (p .acked) ≡ true = rw (le-leb _ _ (bound-III acks), le-leb _ _ (bound-IV acks)) in
+              let in-range : boundsIII-IV ackRange (numbersOf (1 - p .from) h) (p .acked) ≡ true =
+              rw (le-leb _ _ (bound-III acks), le-leb _ _ (bound-IV acks)) in
               if-false _ _ _ (rw (e, in-range))
           by-ack false e = if-false _ _ _ (rw e)
 

@@ -9,6 +9,7 @@ use borrow.Author.Tests.{not-true, ltb-true, leb-true, eq-eqb, eqb-true, lt-ltb}
 use Rattle.choice.specs.Choice.{if_then_else_, _<ᵇ_, _≤ᵇ_, _=ᵇ_}
 use Rattle.choice.proofs.Tests.{&&-true, ||-true, false-true}
 use Rattle.address.specs.Flows.{sameFlow}
+use Rattle.address.specs.declared.Flow.{Flow}
 use Rattle.address.proofs.Flows.{same-true}
 use Rattle.segment.specs.Flags.{syn, rst, ack, SYN, SYN+ACK}
 use Rattle.segment.specs.declared.Segment.{Segment}
@@ -35,7 +36,10 @@ module _ {A B : Type 0} where
   both s t = record { holds = s .holds && t .holds; shows = λ e. let h = &&-true (s .holds) (t .holds) e in (s .shows (h .0), t .shows (h .1)) }
 
   abbrev either : Test A → Test B → Test (A ⊎ B)
-  either s t = record { holds = s .holds || t .holds; shows = λ e. ⊎-elim (λ h. inl (s .shows h)) (λ h. inr (t .shows h)) (||-true (s .holds) (t .holds) e) }
+  either s t = record {
+    holds = s .holds || t .holds;
+    shows = λ e. ⊎-elim (λ h. inl (s .shows h)) (λ h. inr (t .shows h)) (||-true (s .holds) (t .holds) e);
+  }
 
   abbrev so : (A → B) → Test A → Test B
   so f t = record { holds = t .holds; shows = λ e. f (t .shows e) }
@@ -77,16 +81,41 @@ ifEqual m n t = record { holds = not (m =ᵇ n) || t .holds; shows = λ e is. if
 
 abbrev sameLine : (p g : LineSegment) → Test (p ≡ g)
 sameLine p g =
-    so (λ h i. record { from = h .0 i; flags = h .1 .0 i; start = h .1 .1 .0 i; length = h .1 .1 .1 .0 i; acked = h .1 .1 .1 .1 .0 i; window = h .1 .1 .1 .1 .1 i })
-    (both (equal (p .from) (g .from)) (both (equal (p .flags) (g .flags)) (both (equal (p .start) (g .start)) (both (equal (p .length) (g .length)) (both (equal (p .acked) (g .acked)) (equal (p .window) (g .window)))))))
+    so (λ h i. record {
+      from = h .0 i;
+      flags = h .1 .0 i;
+      start = h .1 .1 .0 i;
+      length = h .1 .1 .1 .0 i;
+      acked = h .1 .1 .1 .1 .0 i;
+      window = h .1 .1 .1 .1 .1 i;
+    })
+    (both (equal (p .from) (g .from))
+    (both (equal (p .flags) (g .flags))
+    (both (equal (p .start) (g .start))
+    (both (equal (p .length) (g .length))
+    (both (equal (p .acked) (g .acked)) (equal (p .window) (g .window)))))))
+
+abbrev sameKey : (j k : Flow) → Test (j ≡ k)
+sameKey j k = so (same-true j k) (isTrue (sameFlow j k))
 
 abbrev sameSegment : (p g : Segment) → Test (p ≡ g)
 sameSegment p g =
-    so (λ h i. record { seq = record { 0 = h .0 i }; ack = record { 0 = h .1 .0 i }; window = record { 0 = h .1 .1 .0 i }; flags = h .1 .1 .1 .0 i; octets = record { 0 = h .1 .1 .1 .1 i } })
-    (both (equal (p .seq .0) (g .seq .0)) (both (equal (p .ack .0) (g .ack .0)) (both (equal (p .window .0) (g .window .0)) (both (equal (p .flags) (g .flags)) (equal (p .octets .0) (g .octets .0))))))
+    so (λ h i. record {
+      seq = record { 0 = h .0 i };
+      ack = record { 0 = h .1 .0 i };
+      window = record { 0 = h .1 .1 .0 i };
+      flags = h .1 .1 .1 .0 i;
+      octets = record { 0 = h .1 .1 .1 .1 i };
+    })
+    (both (equal (p .seq .0) (g .seq .0))
+    (both (equal (p .ack .0) (g .ack .0))
+    (both (equal (p .window .0) (g .window .0))
+    (both (equal (p .flags) (g .flags)) (equal (p .octets .0) (g .octets .0))))))
 
 abbrev formed : (p : LineSegment) → Test (Formed p)
-formed p = so (λ h. record { window-fits = h .0; syn-alone = h .1 }) (both (atMost (p .window) widest) (ifEqual (syn (p .flags)) 1 (equal (p .length) 1)))
+formed p =
+    so (λ h. record { window-fits = h .0; syn-alone = h .1 })
+    (both (atMost (p .window) widest) (ifEqual (syn (p .flags)) 1 (equal (p .length) 1)))
 
 -- Events
 
@@ -107,22 +136,34 @@ module _ (t₀ : View connections) (P : Pair) where
   abbrev firstSegment : (p : LineSegment) → Test (FirstSegment P p)
   firstSegment p =
       so (λ h. record { flags = h .0; start = h .1 .0; acks = h .1 .1 })
-      (both (equal (p .flags) (if p .from =ᵇ 0 then SYN else SYN+ACK)) (both (equal (p .start) (P .start (p .from))) (ifEqual (p .from) 1 (equal (p .acked) (P .start 0 + 1)))))
+      (both (equal (p .flags) (if p .from =ᵇ 0 then SYN else SYN+ACK))
+      (both (equal (p .start) (P .start (p .from))) (ifEqual (p .from) 1 (equal (p .acked) (P .start 0 + 1)))))
 
   abbrev laterSegment : (p : LineSegment) (L : Seen) → Test (LaterSegment P p L)
   laterSegment p L =
-      so (λ h. record { has-ack = h .0 .0; no-syn = h .0 .1 .0; no-reset = h .0 .1 .1; starts = h .1 .0 .0; ends = h .1 .0 .1; acks-syn = h .1 .1 .0; acks-received = h .1 .1 .1 .0; acks-rise = h .1 .1 .1 .1 })
+      so (λ h. record {
+        has-ack = h .0 .0;
+        no-syn = h .0 .1 .0;
+        no-reset = h .0 .1 .1;
+        starts = h .1 .0 .0;
+        ends = h .1 .0 .1;
+        acks-syn = h .1 .1 .0;
+        acks-received = h .1 .1 .1 .0;
+        acks-rise = h .1 .1 .1 .1;
+      })
       (both
       (both (equal (ack (p .flags)) 1) (both (equal (syn (p .flags)) 0) (equal (rst (p .flags)) 0)))
       (both
       (both (atMost (highest ackOf (receivedBy (p .from) L)) (p .start)) (atMost (endOf p) (highest edgeOf (receivedBy (p .from) L))))
-      (both (atMost (P .start (1 - p .from) + 1) (p .acked)) (both (atMost (p .acked) (highest endOf (receivedBy (p .from) L))) (atMost (highest ackOf (sentBy (p .from) L)) (p .acked))))))
+      (both (atMost (P .start (1 - p .from) + 1) (p .acked))
+      (both (atMost (p .acked) (highest endOf (receivedBy (p .from) L))) (atMost (highest ackOf (sentBy (p .from) L)) (p .acked))))))
 
   abbrev honest : (p : LineSegment) (L : Seen) → Test (Honest P p L)
   honest p L =
       so (λ h. ⊎-elim (λ f. first (f .0) (f .1 .0) (f .1 .1)) (λ l. later (l .0) (l .1)) h)
       (either
-      (both (firstSegment p) (both (isFalse (answered (p .from) L)) (ifEqual (p .from) 1 (isTrue (some (λ g. g .flags =ᵇ SYN) (receivedBy 1 L))))))
+      (both (firstSegment p)
+      (both (isFalse (answered (p .from) L)) (ifEqual (p .from) 1 (isTrue (some (λ g. g .flags =ᵇ SYN) (receivedBy 1 L))))))
       (both (laterSegment p L) (isTrue (answered (p .from) L))))
 
   abbrev wasSent : (k : ℕ) (p : LineSegment) (L : Seen) → Test (Sent k p L)
@@ -133,9 +174,14 @@ module _ (t₀ : View connections) (P : Pair) where
 
   abbrev arrives : (k : ℕ) (p : LineSegment) (q : ViewCall) (L : Seen) → Test (Arrives M P k p q L)
   arrives k p q L =
-      so (λ h. record { sent = h .0; clock = q .0 .clock; brings = λ i. asks (record { side = h .1 .0 i; clock = q .0 .clock; key = h .1 .1 .0 i; segment = h .1 .1 .1 i }) })
+      so (λ h. record {
+        sent = h .0;
+        clock = q .0 .clock;
+        brings = λ i. asks (record { side = h .1 .0 i; clock = q .0 .clock; key = h .1 .1 .0 i; segment = h .1 .1 .1 i });
+      })
       (both (wasSent k p L)
-      (both (equal (q .0 .side) (sideOf P (p .from))) (both (so (same-true (q .0 .key) (keyOf P (p .from))) (isTrue (sameFlow (q .0 .key) (keyOf P (p .from))))) (sameSegment (q .0 .segment) (onWire p)))))
+      (both (equal (q .0 .side) (sideOf P (p .from)))
+      (both (sameKey (q .0 .key) (keyOf P (p .from))) (sameSegment (q .0 .segment) (onWire p)))))
 
   pub finds-none :
       (b : Ask) (v : View connections) → rows.search connections v (rows.clockUsed connections v b) (b .side) (b .key) ≡ Nothing →
@@ -154,7 +200,8 @@ module _ (t₀ : View connections) (P : Pair) where
       (both (isFalse (told M t₀ L .opened))
       (both (arrives k p q L)
       (both (equal (p .from) 0)
-      (both (nothing (rows.search connections (told M t₀ L .state) (rows.clockUsed connections (told M t₀ L .state) (q .0)) (q .0 .side) (q .0 .key))) (isTrue (passes M (told M t₀ L) q))))))
+      (both (nothing (rows.search connections (told M t₀ L .state) (rows.clockUsed connections (told M t₀ L .state) (q .0)) (q .0 .side) (q .0 .key)))
+      (isTrue (passes M (told M t₀ L) q))))))
 
   abbrev isLive : (q : ViewCall) (L : Seen) → Test (Live M t₀ q L)
   isLive q L = below (max (q .0 .clock) (told M t₀ L .passClock)) (told M t₀ L .until)
@@ -180,7 +227,9 @@ module _ (t₀ : View connections) (P : Pair) where
       ⊎-elim (λ f. false-true (sym f ∙ on-ours .after-opening))
       (⊎-elim (λ f. false-true (sym f ∙ lt-ltb _ _ (on-ours .live)))
       (⊎-elim (λ f. false-true (sym f ∙ on-ours .answered-0)) (λ f. false-true (sym f ∙ eq-eqb _ _ (on-ours .place))))) h)
-      (either (isFalse (told M t₀ L .opened)) (either (isFalse (isLive q L .holds)) (either (isFalse (passes M (told M t₀ L) q)) (isFalse (said M t₀ L q .place =ᵇ told M t₀ L .place)))))
+      (either (isFalse (told M t₀ L .opened))
+      (either (isFalse (isLive q L .holds))
+      (either (isFalse (passes M (told M t₀ L) q)) (isFalse (said M t₀ L q .place =ᵇ told M t₀ L .place)))))
 
   abbrev fairCall : (l : Label) (q : ViewCall) (L : Seen) → Test (FairCall M t₀ P l q L)
   fairCall (opening k p) q L = opens k p q L

@@ -302,7 +302,8 @@ module _ (M : Machine) (Sound : M .State → Type 0) (keeps : KeepsTo M Sound) (
           let c' : Connection = passed c (p .from) (onWire p) (used a) in
           let renewed = passed-renewed c (p .from) (onWire p) (used a) no-reset in
           let table = keeps .left (t .state) q a (kept .sound) read ∙ ap (after connections v) filter-passes in
-          let r = pass-on-ours P known v sound-before (al .place) c c' (used a) (al .ours) (al .others) (omega arith) (renewed .side ∙ al .ours .our-side) in
+          let side = renewed .side ∙ al .ours .our-side in
+          let r = pass-on-ours P known v sound-before (al .place) c c' (used a) (al .ours) (al .others) (omega arith) side in
           segment-kept p a read brings arrival-passes (t .place) (al .place) c' (al .numbered) (rw table (r .0)) (rw table (r .1))
           (holds-after (used a)) heard-after (renewed .deadline)
 
@@ -431,14 +432,19 @@ module _ (M : Machine) (Sound : M .State → Type 0) (keeps : KeepsTo M Sound) (
       by-phase (alive opened-t c al) =
           let w = sent-with k p L (r .arrives .sent) in
           let f = inv .protocol .facts k p (w .0) (w .1) in
-          let x = passing P (told M s₀ L .passed) (λ j g. Arrived j g L) L (inv .protocol) c (al .holds) k p (w .0) (w .1) (r .in-order) (al .heard) in
-          let asked-p : AskOf P (p .from) (record { side = sideOf P (p .from); clock = r .arrives .clock; key = keyOf P (p .from); segment = onWire p }) = record { end = f .end-known; side = refl; key = refl } in (
+          let x =
+          passing P (told M s₀ L .passed) (λ j g. Arrived j g L) L (inv .protocol) c (al .holds) k p (w .0) (w .1)
+          (r .in-order) (al .heard) in
+          let a : Ask = record { side = sideOf P (p .from); clock = r .arrives .clock; key = keyOf P (p .from); segment = onWire p } in
+          let asked-p : AskOf P (p .from) a = record { end = f .end-known; side = refl; key = refl } in (
             answer-is-0 (told M s₀ L) (inv .table) q p _ (r .arrives .brings) refl asked-p (f .no-reset) c al (r .live) (x .verdict),
             place-is-ours (told M s₀ L) (inv .table) q p _ (r .arrives .brings) refl asked-p (f .no-reset) c al (r .live) (x .verdict),
             record {
-              table = arrival-kept (told M s₀ L) (inv .table) q p _ (r .arrives .brings) refl asked-p (f .no-reset) c al (r .live) (x .verdict) (x .holds-after) (x .heard-after);
+              table = arrival-kept (told M s₀ L) (inv .table) q p _ (r .arrives .brings) refl asked-p (f .no-reset) c al (r .live) (x .verdict)
+                  (x .holds-after) (x .heard-after);
               protocol = protocol-after q (arrival k p) k p L inv (r .arrives .sent)
-                  (arrival-passes (told M s₀ L) (inv .table) q p _ (r .arrives .brings) refl asked-p (f .no-reset) c al (r .live) (x .verdict)) (told M s₀ L .place);
+                  (arrival-passes (told M s₀ L) (inv .table) q p _ (r .arrives .brings) refl asked-p (f .no-reset) c al (r .live) (x .verdict))
+                  (told M s₀ L .place);
             },
           )
 

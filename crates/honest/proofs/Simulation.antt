@@ -119,7 +119,9 @@ module _ {B C : Bodies} where
 
       unmatched-same : Alike R (unmatched B v now side k g) (unmatched C u now side k g)
       unfolding unmatched
-      unmatched-same = if-both (Alike R) (opens side g) (opens side g) _ _ _ _ refl (λ opening. rw (← lowest-same) (go opening (lowestVacant B v now))) (λ _. refl)
+      unmatched-same =
+          if-both (Alike R) (opens side g) (opens side g) _ _ _ _ refl
+          (λ opening. rw (← lowest-same) (go opening (lowestVacant B v now))) (λ _. refl)
         where
           go : opens side g ≡ true → (r : Found) → Alike R (onVacant B r now side k g) (onVacant C r now side k g)
           go opening Nothing = refl
