@@ -114,13 +114,15 @@ module _ {Call : Type 0} where
   unfolding answered
   grows-delivery k p L = record {
     answered-still = λ i e. by (eqb i 0) i e;
-    heard-more = λ i. highest-lub ackOf _ (receivedBy i L) (λ g there. highest-up ackOf g (receivedBy i (delivery k p ∷ L)) (received-more i k p g L there));
+    heard-more = λ i.
+        highest-lub ackOf _ (receivedBy i L) (λ g there. highest-up ackOf g (receivedBy i (delivery k p ∷ L)) (received-more i k p g L there));
   }
     where
       by :
           (t : Bool) (i : ℕ) →
           (if t then some (λ g. g .flags =ᵇ SYN+ACK) (receivedBy 0 L) else some (λ g. ack (g .flags) =ᵇ 1) (receivedBy 1 L)) ≡ true →
-          (if t then some (λ g. g .flags =ᵇ SYN+ACK) (receivedBy 0 (delivery k p ∷ L)) else some (λ g. ack (g .flags) =ᵇ 1) (receivedBy 1 (delivery k p ∷ L))) ≡ true
+          (if t then some (λ g. g .flags =ᵇ SYN+ACK) (receivedBy 0 (delivery k p ∷ L))
+          else some (λ g. ack (g .flags) =ᵇ 1) (receivedBy 1 (delivery k p ∷ L))) ≡ true
       by true i e = if-true true _ _ refl ∙ some-more (λ g. g .flags =ᵇ SYN+ACK) 0 k p L (sym (if-true true _ _ refl) ∙ e)
       by false i e = if-false false _ _ refl ∙ some-more (λ g. ack (g .flags) =ᵇ 1) 1 k p L (sym (if-false false _ _ refl) ∙ e)
 
@@ -245,7 +247,9 @@ module _ {Call : Type 0} (P : Pair) where
 
   -- What an end has received
 
-  module _ (h : List LineSegment) (Arrived : ℕ → LineSegment → Type 0) (L : List (Event Call)) (inv : Protocol h Arrived L) (i : ℕ) (known : i < 2) where
+  module _
+      (h : List LineSegment) (Arrived : ℕ → LineSegment → Type 0) (L : List (Event Call)) (inv : Protocol h Arrived L)
+      (i : ℕ) (known : i < 2) where
     received-fact : (g : LineSegment) → In g (receivedBy i L) → (s : ℕ) × Fact h g s L
     received-fact g there =
         let r = passed-sent h Arrived L inv g (inv .received i g there .0) in (r .1, inv .facts (r .0) g (r .1) (r .3))
@@ -272,7 +276,8 @@ module _ {Call : Type 0} (P : Pair) where
     pub heard-windows : highest edgeOf (receivedBy i L) ≤ highest ackOf (receivedBy i L) + numbersOf (1 - i) h .win
     heard-windows = highest-lub edgeOf _ (receivedBy i L) (λ g there.
         let f = received-fact g there .1 in
-        let window : g .window ≤ numbersOf (1 - i) h .win = rw (windowBy-mine (1 - i) g (f .no-reset) (theirs g there)) at (numbers-up (1 - i) g h (inv .received i g there .0) .2) in
+        let window : g .window ≤ numbersOf (1 - i) h .win =
+        rw (windowBy-mine (1 - i) g (f .no-reset) (theirs g there)) at (numbers-up (1 - i) g h (inv .received i g there .0) .2) in
         granted g (highest ackOf (receivedBy i L)) (numbersOf (1 - i) h .win) window (win-some (1 - i) h) (highest-up ackOf g (receivedBy i L) there))
       where
         granted : (g : LineSegment) (top win : ℕ) → g .window ≤ win → 1 ≤ win → ackOf g ≤ top → edgeOf g ≤ top + win
@@ -296,7 +301,9 @@ module _ {Call : Type 0} (P : Pair) where
 
   -- A sending
 
-  module _ (h : List LineSegment) (Arrived : ℕ → LineSegment → Type 0) (L : List (Event Call)) (inv : Protocol h Arrived L) (p : LineSegment) (known : p .from < 2) (formed : Formed p) where
+  module _
+      (h : List LineSegment) (Arrived : ℕ → LineSegment → Type 0) (L : List (Event Call)) (inv : Protocol h Arrived L)
+      (p : LineSegment) (known : p .from < 2) (formed : Formed p) where
     pub fact-first : FirstSegment P p → Fact h p (snapshot p L) L
     fact-first rule =
         let f = first-facts P p formed rule in
@@ -402,7 +409,8 @@ module _ {Call : Type 0} (P : Pair) where
         too-late : Now k g s → SentWith k' g' s' L → ⊥
         too-late now before' =
             let index = sent-in k' g' s' L before' .1 in
-            let one : length (sentBy (g' .from) L) ≡ length (sentBy (p .from) L) = ap (λ (i : ℕ). length (sentBy i L)) (sym same ∙ ap (λ (f : LineSegment). f .from) (now .0)) in
+            let one : length (sentBy (g' .from) L) ≡ length (sentBy (p .from) L) =
+            ap (λ (i : ℕ). length (sentBy i L)) (sym same ∙ ap (λ (f : LineSegment). f .from) (now .0)) in
             omega (arith, now .1)
 
     pub protocol-sent : Honest P p L → Protocol h Arrived (send p ∷ L)
@@ -448,7 +456,9 @@ module _ {Call : Type 0} (P : Pair) where
 
   -- A call: with nothing of the pair's, or with a segment that passes
 
-  module _ (h : List LineSegment) (Arrived : ℕ → LineSegment → Type 0) (L : List (Event Call)) (inv : Protocol h Arrived L) (q : Call) (l : Label) where
+  module _
+      (h : List LineSegment) (Arrived : ℕ → LineSegment → Type 0) (L : List (Event Call)) (inv : Protocol h Arrived L)
+      (q : Call) (l : Label) where
     grows-call : Grows L (call q l ∷ L)
     unfolding answered receivedBy
     grows-call = record { answered-still = λ i e. e; heard-more = λ i. omega arith }
@@ -472,7 +482,8 @@ module _ {Call : Type 0} (P : Pair) where
       order = inv .order;
       received = λ i g got. let r = inv .received i g got in (inr (r .0), r .1);
       arrived = λ j g a. ⊎-elim
-          (λ (now : (j ≡ k) × (g ≡ p)). (s, subst (λ (i : ℕ). SentWith i g s L) (sym (now .0)) (subst (λ (f : LineSegment). SentWith k f s L) (sym (now .1)) sent)))
+          (λ (now : (j ≡ k) × (g ≡ p)).
+          (s, subst (λ (i : ℕ). SentWith i g s L) (sym (now .0)) (subst (λ (f : LineSegment). SentWith k f s L) (sym (now .1)) sent)))
           (λ (before : Arrived j g). inv .arrived j g before)
           a;
       passed = λ g there. ⊎-elim

@@ -108,7 +108,9 @@ module _ (c : Connection) (x : ℕ → End) (ends : TwoEnds c x) (g : Segment) (
 
   passed-typed : (i : ℕ) → i < 2 → Typed (passed c i g now)
   unfolding passed
-  passed-typed i h = if-either Typed _ _ _ free-typed (if-either Typed _ _ _ (carried-typed i h) (if-either Typed _ _ _ repeated-typed answered-typed))
+  passed-typed i h =
+      if-either Typed _ _ _ free-typed
+      (if-either Typed _ _ _ (carried-typed i h) (if-either Typed _ _ _ repeated-typed answered-typed))
 
 -- a reset frees
 pub reset-frees : (c : Connection) (i : ℕ) (g : Segment) (now : ℕ) → rst (g .flags) ≡ 1 → passed c i g now ≡ free

@@ -110,7 +110,14 @@ module _ (M : Machine) (Sound : M .State → Type 0) (keeps : KeepsTo M Sound) (
 
   -- the same, with the table that the state is
   abbrev viewed : Told M → Told F
-  viewed t = record { state = M .view (t .state); opened = t .opened; place = t .place; passed = t .passed; passClock = t .passClock; until = t .until }
+  viewed t = record {
+    state = M .view (t .state);
+    opened = t .opened;
+    place = t .place;
+    passed = t .passed;
+    passClock = t .passClock;
+    until = t .until;
+  }
 
   module _ (t : Told M) (kept : Sound (t .state)) (q : M .Call) (b : ViewCall) (is : M .reads q ≡ asks (b .0)) where
     same-pass : passes F (viewed t) b ≡ passes M t q
