@@ -3,31 +3,23 @@ use Prim.Native.Nat.{ℕ}
 use mathlib.Core.Bool.{Bool, true, _&&_}
 use mathlib.Core.List.{List, [], _∷_}
 use Rattle.choice.specs.Choice.{_=ᵇ_, if_then_else_}
-use Rattle.address.specs.Flows.{dotted, endpoint, between, reversed}
-use Rattle.address.specs.declared.Flow.{Flow}
+use Rattle.address.specs.Flows.{reversed}
 use Rattle.segment.specs.Flags.{SYN, SYN+ACK, ACK}
 use Rattle.segment.specs.declared.Segment.{Segment}
-use Rattle.connection.specs.Ends.{count, seqNum, sender}
+use Rattle.connection.specs.Ends.{sender}
 use Rattle.connection.specs.declared.End.{End}
 use Rattle.rows.specs.Rows as rows
 use Rattle.rows.specs.Rows.{Entry, View, Ask, Passed, filter, answerOf, placeBy, nowhere}
 use Rattle.rows.specs.Connections.{connections}
+use Rattle.rows.specs.Examples.{outward, numbers, segment}
 use Rattle.honest.specs.Demand2.{fresh}
 
 -- Calls
 
--- by flags, s, n, a and w
-abbrev pub segment : (flags s n a w : ℕ) → Segment
-segment flags s n a w = record { seq = seqNum s; ack = seqNum a; window = count w; flags = flags; octets = count n }
-
--- from 10.0.0.1 port 1024, on side 0, to 10.0.0.2 port 80
-abbrev pub outward : Flow
-outward = between (endpoint (dotted 10 0 0 1) 1024) (endpoint (dotted 10 0 0 2) 80)
-
+-- the opener is on side 0
 abbrev pub byOpener : ℕ → Segment → Ask
 byOpener clock g = record { side = 0; clock = clock; key = outward; segment = g }
 
--- back, on side 1
 abbrev pub byAnswerer : ℕ → Segment → Ask
 byAnswerer clock g = record { side = 1; clock = clock; key = reversed outward; segment = g }
 
@@ -54,10 +46,6 @@ opened = after empty packet1
 
 abbrev pub stateK : View connections
 stateK = after opened packet2
-
--- end, edge and win
-abbrev pub numbers : ℕ → ℕ → ℕ → End
-numbers end edge win = record { end = seqNum end; edge = seqNum edge; win = count win }
 
 -- C11's own records: sender end = edge = 1, other win 1
 abbrev pub entry11 : Entry connections

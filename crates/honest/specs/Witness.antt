@@ -15,10 +15,10 @@ use Rattle.serial.proofs.Ring.{wrap-small}
 use Rattle.address.specs.Flows.{dotted, endpoint, between, reversed}
 use Rattle.address.specs.declared.Flow.{Flow}
 use Rattle.segment.specs.Flags.{syn, SYN, SYN+ACK, ACK, FIN+ACK}
+use Rattle.rows.specs.Examples.{outward}
 use Rattle.history.specs.History.{LineSegment, onWire, Placeable}
 use Rattle.honest.specs.Rules.{opening, arrival, other, Event, send, call, delivery, Pair}
 use Rattle.honest.specs.Instance.{ViewCall}
-use Rattle.honest.specs.Marked.{outward}
 
 -- The pair: the opener's SYN is number 2^32 − 3, the answerer's 2^32 − 2
 

@@ -5,6 +5,7 @@ use mathlib.Core.List.{[], _∷_}
 use Rattle.address.specs.Flows.{dotted, endpoint, between, reversed, noFlow}
 use Rattle.address.specs.declared.Flow.{Flow}
 use Rattle.segment.specs.Flags.{SYN, ACK, ACK+RST}
+use Rattle.segment.specs.declared.Segment.{Segment}
 use Rattle.connection.specs.Ends.{count, seqNum}
 use Rattle.connection.specs.Decision.{free}
 use Rattle.connection.specs.declared.Connection.{Connection}
@@ -14,14 +15,16 @@ use Rattle.rows.specs.Connections.{connections}
 
 -- Tables
 
-abbrev outward : Flow
+-- from 10.0.0.1 port 1024 to 10.0.0.2 port 80
+abbrev pub outward : Flow
 outward = between (endpoint (dotted 10 0 0 1) 1024) (endpoint (dotted 10 0 0 2) 80)
 
 -- of no entry
 abbrev stranger : Flow
 stranger = between (endpoint (dotted 10 0 0 3) 1024) (endpoint (dotted 10 0 0 2) 80)
 
-abbrev numbers : (end edge win : ℕ) → End
+-- end, edge and win
+abbrev pub numbers : (end edge win : ℕ) → End
 numbers end edge win = record { end = seqNum end; edge = seqNum edge; win = count win }
 
 abbrev connection : (side stage deadline : ℕ) (opener answerer : End) → Connection
@@ -57,15 +60,14 @@ turned = table (entry outward (stateK 1 101)) (entry outward (stateK 1 101)) (en
 abbrev full : View connections
 full = table (entry outward (unanswered 101)) (entry outward (unanswered 101)) (entry outward (unanswered 101))
 
--- Calls, by side, clock, addresses and ports; flags, s, n, a and w
+-- Calls
 
+abbrev pub segment : (flags s n a w : ℕ) → Segment
+segment flags s n a w = record { seq = seqNum s; ack = seqNum a; window = count w; flags = flags; octets = count n }
+
+-- by side, clock, addresses and ports; flags, s, n, a and w
 abbrev call : (side clock : ℕ) → Flow → (flags s n a w : ℕ) → Ask
-call side clock k flags s n a w = record {
-  side = side;
-  clock = clock;
-  key = k;
-  segment = record { seq = seqNum s; ack = seqNum a; window = count w; flags = flags; octets = count n };
-}
+call side clock k flags s n a w = record { side = side; clock = clock; key = k; segment = segment flags s n a w }
 
 -- a SYN that matches nothing; and on the example's connection ten octets of the opener's, and a wider window of the answerer's
 abbrev opening : Ask
