@@ -17,7 +17,7 @@ use Rattle.honest.proofs.Demand2Machine.{demand2-of}
 use Rattle.honest.proofs.Demand3.{demand3}
 
 module _ (number : ℕ → ℕ) where
-  pub viewMachine-keeps : KeepsTo (viewMachine number) (SoundTypedView)
+  pub viewMachine-keeps : KeepsTo (viewMachine number) SoundTypedView
   viewMachine-keeps = record {
     refusal-answered = λ t q n sound is. false-true cc;
     refusal-placed = λ t q n sound is. false-true cc;
@@ -33,12 +33,12 @@ module _ (number : ℕ → ℕ) where
   }
 
   -- two honest ends are never blocked by the filter
-  pub demand3-list : Demand3 (viewMachine number) (SoundTypedView)
-  demand3-list = demand3 (viewMachine number) (SoundTypedView) viewMachine-keeps
+  pub demand3-list : Demand3 (viewMachine number) SoundTypedView
+  demand3-list = demand3 (viewMachine number) SoundTypedView viewMachine-keeps
 
   -- and its answers, places and tables are the histories'
-  pub demand2-list : Demand2Of (viewMachine number) (SoundTypedView)
-  demand2-list = demand2-of (viewMachine number) (SoundTypedView) viewMachine-keeps
+  pub demand2-list : Demand2Of (viewMachine number) SoundTypedView
+  demand2-list = demand2-of (viewMachine number) SoundTypedView viewMachine-keeps
 
   pub fresh-sound : (n : ℕ) → SoundTypedView (fresh connections n)
   fresh-sound n = ((λ p inside. inl refl), (λ p inside. free-typed))

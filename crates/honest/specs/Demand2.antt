@@ -1,4 +1,5 @@
--- Demand 2 over lists of calls. Lists are newest first: in a ∷ l, a comes after all of l.
+-- Demand 2 over lists of calls: the table always is the histories' in numbers, and each answer and place is what the histories give.
+-- Lists are newest first: in a ∷ l, a comes after all of l.
 use Prim.Native.Nat.{ℕ}
 use mathlib.Core.Path.{_≡_}
 use mathlib.Core.List.{List, [], _∷_}
@@ -18,7 +19,7 @@ module _ (B : Bodies) (n : ℕ) where
   tableAfter [] = fresh
   tableAfter (a ∷ l) = after B (tableAfter l) (filter B (tableAfter l) a)
 
-  -- the next call
+  -- what the next call comes to
   abbrev pub outcomeAfter : List Ask → Ask → Outcome B
   outcomeAfter l a = filter B (tableAfter l) a
 
@@ -27,7 +28,8 @@ unfoldable pub AllPlaceable : List Ask → Type 0
 AllPlaceable [] = Unit {0}
 AllPlaceable (a ∷ l) = Placeable (a .segment) × AllPlaceable l
 
--- after a list of calls the table has the numbers of the histories, and the next call has the answer and the place that they give
+-- after a list of calls the table is that of the histories in numbers, and the next call has the answer and the place that they give,
+-- whatever the numbers of the places are
 pub record FollowsHistories (n : ℕ) (l : List Ask) : Type 0 where
   pub table : tableAfter connections n l ≡ inNumbers (tableAfter histories n l)
   pub answer :
@@ -37,7 +39,7 @@ pub record FollowsHistories (n : ℕ) (l : List Ask) : Type 0 where
       (number : ℕ → ℕ) (a : Ask) → Placeable (a .segment) →
       placeBy number (outcomeAfter connections n l a) ≡ placeBy number (outcomeAfter histories n l a)
 
--- from the fresh table of any number of places, for every list of well-formed calls
+-- from the fresh table of any number of places, after every list of well-formed calls
 abbrev pub Demand2 : Type 0
 Demand2 = (n : ℕ) (l : List Ask) → AllPlaceable l → FollowsHistories n l
 
@@ -60,8 +62,8 @@ module _ (M : Machine) (s₀ : M .State) where
   stateAfter [] = s₀
   stateAfter (q ∷ l) = M .run (stateAfter l) q .next
 
-  -- after a list of calls the machine's table has the numbers of the histories; a next call that asks has their answer and place, one that is
-  -- refused the answer of its refusal and no place, and one on another part of the table leaves this one as it is
+  -- after a list of calls the machine's view is the histories' table in numbers; a next call that asks has the answer and the place that
+  -- they give, one that is refused has the answer of its refusal and no place, and one on another part of the table leaves the view
   pub record MachineFollows (n : ℕ) (l : List (M .Call)) : Type 0 where
     pub table : M .view (stateAfter l) ≡ inNumbers (tableAfter histories n (asked M l))
     pub answer :
@@ -74,6 +76,8 @@ module _ (M : Machine) (s₀ : M .State) where
     pub refusal-place : (q : M .Call) (m : ℕ) → M .reads q ≡ refused m → M .run (stateAfter l) q .place ≡ nowhere
     pub apart-stays : (q : M .Call) → M .reads q ≡ apart → M .view (M .run (stateAfter l) q .next) ≡ M .view (stateAfter l)
 
--- from every sound state that is a fresh table, for every list of calls
+-- from every sound state whose view is the fresh table of any number of places, after every list of calls
 abbrev pub Demand2Of : (M : Machine) → (M .State → Type 0) → Type 0
-Demand2Of M Sound = (s₀ : M .State) → Sound s₀ → (n : ℕ) → M .view s₀ ≡ fresh connections n → (l : List (M .Call)) → MachineFollows M s₀ n l
+Demand2Of M Sound =
+    (s₀ : M .State) → Sound s₀ → (n : ℕ) → M .view s₀ ≡ fresh connections n → (l : List (M .Call)) →
+    MachineFollows M s₀ n l

@@ -94,7 +94,7 @@ module _ (M : Machine) where
     pub clock : ℕ
     pub brings : M .reads q ≡ asks (record { side = sideOf P (p .from); clock = clock; key = keyOf P (p .from); segment = onWire p })
 
-  -- the call is passed on the opening's entry
+  -- the call is passed on the opening's entry, by its place
   pub record PassedOnOurs (s₀ : M .State) (q : M .Call) (L : Events) : Type 0 where
     pub after-opening : told s₀ L .opened ≡ true
     -- once that entry has expired, its place may be another's
@@ -115,7 +115,7 @@ module _ (M : Machine) where
           let v = M .view (told s₀ L .state) in rows.search connections v (rows.clockUsed connections v a) (a .side) (a .key) ≡ Nothing
       pub answered-0 : passes (told s₀ L) q ≡ true
 
-    -- an arrival after it
+    -- an arrival after it: no later sending of its end has arrived, and the connection is live
     pub record Arrival (k : ℕ) (p : LineSegment) (q : M .Call) (L : Events) : Type 0 where
       pub after-opening : told s₀ L .opened ≡ true
       pub arrives : Arrives P k p q L
@@ -129,8 +129,10 @@ module _ (M : Machine) where
     FairCall other q L = PassedOnOurs s₀ q L → ⊥
 
     abbrev pub Fair : Event (M .Call) → Events → Type 0
+    -- a sending keeps the rules by what was delivered before it, and its packet is well formed
     Fair (send p) L = (p .from < 2) × Formed p × Honest P p L
     Fair (call q l) L = FairCall l q L
+    -- a segment is delivered only after an arrival of it, the opening or a later one, was answered 0
     Fair (delivery k p) L = Passed s₀ k p L
 
     abbrev pub Legal : Events → Type 0

@@ -29,7 +29,7 @@ pub record Machine : Type 1 where
   pub number : ℕ → ℕ
   pub reads : Call → Reading Ask
 
--- the clock given; of a call that is refused or on another part of the table it is of no account
+-- the clock given; that of a call that is refused, or on another part of the table, moves nothing here
 abbrev pub clockIn : Reading Ask → ℕ
 clockIn (refused n) = 0
 clockIn (asks a) = a .clock

@@ -12,7 +12,9 @@ use Rattle.history.specs.Records.{TwoEnds}
 
 -- every entry is free or sound by the header clock; what else document 01 asks, a clock under 2^48 and zero bytes, concerns the bytes
 abbrev pub SoundView : View connections → Type 0
-SoundView v = (p : ℕ) → p < v .places → (v .entry p ≡ freeEntry connections) ⊎ (soundConnection (v .clock) (v .entry p .connection) ≡ true)
+SoundView v =
+    (p : ℕ) → p < v .places →
+    (v .entry p ≡ freeEntry connections) ⊎ (soundConnection (v .clock) (v .entry p .connection) ≡ true)
 
 -- its numbers are as their types have them: each connection has two ends, with 32-bit numbers
 abbrev pub Typed : Connection → Type 0

@@ -75,7 +75,7 @@ module _ (B : Bodies) where
   unfoldable pub liveMatch : ℕ → ℕ → Flow → Entry → Bool
   liveMatch now side k e = (now <ᵇ B .deadline (e .connection)) && (fromOpener e side k || fromAnswerer e side k)
 
-  -- free or expired: a free entry's deadline is 0
+  -- free or expired, as a free entry's deadline is 0
   unfoldable pub vacant : ℕ → Entry → Bool
   vacant now e = B .deadline (e .connection) ≤ᵇ now
 
