@@ -18,21 +18,21 @@ use Rattle.rows.proofs.Places.{first-same}
 use Rattle.rows.proofs.Rows.{sender-known, found-live}
 
 module _ {B C : Bodies} where
-  -- what is asked of a relation between entries, for segments that are legal
-  pub record Agreeing (R : Entry B → Entry C → Type 0) (Legal : Segment → Type 0) : Type 0 where
+  -- what is asked of a relation between entries, for segments that are fit
+  pub record Agreeing (R : Entry B → Entry C → Type 0) (Fit : Segment → Type 0) : Type 0 where
     pub key : {e : Entry B} {f : Entry C} → R e f → e .key ≡ f .key
     pub side : {e : Entry B} {f : Entry C} → R e f → B .side (e .connection) ≡ C .side (f .connection)
     pub deadline : {e : Entry B} {f : Entry C} → R e f → B .deadline (e .connection) ≡ C .deadline (f .connection)
     pub free : R (freeEntry B) (freeEntry C)
     pub made :
-        (now side : ℕ) (k : Flow) (g : Segment) → Legal g → opens side g ≡ true →
+        (now side : ℕ) (k : Flow) (g : Segment) → Fit g → opens side g ≡ true →
         R (openingEntry B now side k g) (openingEntry C now side k g)
     -- of live entries
     pub verdict :
-        {e : Entry B} {f : Entry C} (i : ℕ) (g : Segment) → R e f → 0 < B .deadline (e .connection) → i < 2 → Legal g →
+        {e : Entry B} {f : Entry C} (i : ℕ) (g : Segment) → R e f → 0 < B .deadline (e .connection) → i < 2 → Fit g →
         B .verdict (e .connection) i g ≡ C .verdict (f .connection) i g
     pub passed :
-        {e : Entry B} {f : Entry C} (i : ℕ) (g : Segment) (now : ℕ) → R e f → 0 < B .deadline (e .connection) → i < 2 → Legal g →
+        {e : Entry B} {f : Entry C} (i : ℕ) (g : Segment) (now : ℕ) → R e f → 0 < B .deadline (e .connection) → i < 2 → Fit g →
         B .verdict (e .connection) i g ≡ Pass →
         R (entryAfter B e i g now) (entryAfter C f i g now)
 
@@ -73,7 +73,7 @@ module _ {B C : Bodies} where
       entries = λ r. if-both R (r =ᵇ p) (r =ᵇ q) _ _ _ _ (ap (λ x. r =ᵇ x) (same .0)) (λ _. same .2) (λ _. related .entries r);
     }
 
-  module _ (R : Entry B → Entry C → Type 0) (Legal : Segment → Type 0) (agree : Agreeing R Legal) where
+  module _ (R : Entry B → Entry C → Type 0) (Fit : Segment → Type 0) (agree : Agreeing R Fit) where
     live-same :
         {e : Entry B} {f : Entry C} (now side : ℕ) (k : Flow) → R e f →
         liveMatch B now side k e ≡ liveMatch C now side k f
@@ -88,7 +88,7 @@ module _ {B C : Bodies} where
     unfolding senderOf
     sender-same side r = rw (agree .side r)
 
-    module _ (v : View B) (u : View C) (related : Related R v u) (now side : ℕ) (k : Flow) (g : Segment) (legal : Legal g) where
+    module _ (v : View B) (u : View C) (related : Related R v u) (now side : ℕ) (k : Flow) (g : Segment) (fit : Fit g) where
       search-same : rows.search B v now side k ≡ rows.search C u now side k
       search-same =
           first-same _ _ (v .places) 0 (λ p low high. live-same now side k (related .entries p))
@@ -114,8 +114,8 @@ module _ {B C : Bodies} where
       entry-same p e f r live =
           let i = senderOf B e side in
           let known = sender-known B e side in
-          rw (← sender-same side r, ← agree .verdict i g r live known legal)
-          (by-verdict-same (B .verdict (e .connection) i g) p _ _ (λ passes. agree .passed i g now r live known legal passes))
+          rw (← sender-same side r, ← agree .verdict i g r live known fit)
+          (by-verdict-same (B .verdict (e .connection) i g) p _ _ (λ passes. agree .passed i g now r live known fit passes))
 
       unmatched-same : Alike R (unmatched B v now side k g) (unmatched C u now side k g)
       unfolding unmatched
@@ -125,7 +125,7 @@ module _ {B C : Bodies} where
         where
           go : opens side g ≡ true → (r : Found) → Alike R (onVacant B r now side k g) (onVacant C r now side k g)
           go opening Nothing = refl
-          go opening (At p) = (refl, refl, agree .made now side k g legal opening)
+          go opening (At p) = (refl, refl, agree .made now side k g fit opening)
 
       pub segment-same : Alike R (onSegment B v now side k g) (onSegment C u now side k g)
       unfolding onSegment
@@ -138,7 +138,7 @@ module _ {B C : Bodies} where
           go Nothing none = unmatched-same
 
     pub filter-same :
-        (v : View B) (u : View C) → Related R v u → (a : Ask) → Legal (a .segment) → Alike R (filter B v a) (filter C u a)
-    filter-same v u related a legal =
+        (v : View B) (u : View C) → Related R v u → (a : Ask) → Fit (a .segment) → Alike R (filter B v a) (filter C u a)
+    filter-same v u related a fit =
         subst (λ (c : ℕ). Alike R (filter B v a) (onSegment C u (max (a .clock) c) (a .side) (a .key) (a .segment))) (related .clock)
-        (segment-same v u related (clockUsed B v a) (a .side) (a .key) (a .segment) legal)
+        (segment-same v u related (clockUsed B v a) (a .side) (a .key) (a .segment) fit)
