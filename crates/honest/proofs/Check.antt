@@ -4,6 +4,7 @@ use mathlib.Core.Path.{_≡_, refl, sym, ap, _∙_}
 use mathlib.Core.Logic.{_⊎_, inl, inr, ⊎-elim}
 use mathlib.Core.Bool.{Bool, true, false, _&&_, _||_, not}
 use mathlib.Core.List.{List, [], _∷_}
+use native.Mathlib.Omega.{arith}
 use lib.ListN.{length}
 use borrow.Author.Tests.{not-true, ltb-true, leb-true, eq-eqb, eqb-true, lt-ltb}
 use Rattle.choice.specs.Choice.{if_then_else_, _<ᵇ_, _≤ᵇ_, _=ᵇ_}
@@ -203,8 +204,8 @@ module _ (t₀ : View connections) (P : Pair) where
       (both (nothing (rows.search connections (told M t₀ L .state) (rows.clockUsed connections (told M t₀ L .state) (q .0)) (q .0 .side) (q .0 .key)))
       (isTrue (passes M (told M t₀ L) q))))))
 
-  abbrev isLive : (q : ViewCall) (L : Seen) → Test (Live M t₀ q L)
-  isLive q L = below (max (q .0 .clock) (told M t₀ L .passClock)) (told M t₀ L .until)
+  abbrev isLive : (q : ViewCall) (L : Seen) → Test (Live M (told M t₀ L) q)
+  isLive q L = so (λ under. omega (arith, under)) (below (max (q .0 .clock) (told M t₀ L .passClock)) (told M t₀ L .until))
 
   -- no later sending of end i has arrived
   abbrev inOrder : (i k : ℕ) (L : Seen) → Test (InOrder (λ j g. Arrived j g L) i k)
@@ -225,7 +226,7 @@ module _ (t₀ : View connections) (P : Pair) where
   elsewhere q L =
       so (λ h on-ours.
       ⊎-elim (λ f. false-true (sym f ∙ on-ours .after-opening))
-      (⊎-elim (λ f. false-true (sym f ∙ lt-ltb _ _ (on-ours .live)))
+      (⊎-elim (λ f. false-true (sym f ∙ lt-ltb (max (q .0 .clock) (told M t₀ L .passClock)) (told M t₀ L .until) (omega (arith, on-ours .live))))
       (⊎-elim (λ f. false-true (sym f ∙ on-ours .answered-0)) (λ f. false-true (sym f ∙ eq-eqb _ _ (on-ours .place))))) h)
       (either (isFalse (told M t₀ L .opened))
       (either (isFalse (isLive q L .holds))

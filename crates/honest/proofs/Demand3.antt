@@ -25,7 +25,7 @@ use Rattle.history.proofs.Pass.{opened-unanswered, opened-holds, opener-begins}
 use Rattle.honest.specs.Sound.{SoundView}
 use Rattle.honest.specs.Machine.{Reading, refused, asks, apart, Machine, clockIn, KeepsTo}
 use Rattle.honest.specs.Rules.{Label, opening, arrival, other, Event, send, call, delivery, Pair, sideOf, keyOf, Sent, Arrived, receivedBy, Honest}
-use Rattle.honest.specs.Honest.{Told, passes, nextClock, afterSegment, afterCall, told, said, Passed, Opening, Arrival, FairCall, Legal, NeverBlocked, Demand3}
+use Rattle.honest.specs.Honest.{Told, passes, nextClock, afterSegment, afterCall, told, said, Live, Passed, PassedOnOurs, Opening, Arrival, FairCall, Legal, NeverBlocked, Demand3}
 use Rattle.honest.proofs.Lists.{In}
 use Rattle.honest.proofs.Sends.{SentWith, sent-with, First, Later, Fact, first-facts, Protocol, answered-in, protocol-sent, protocol-delivered, protocol-called, protocol-passed}
 use Rattle.honest.proofs.Arrival.{Heard, quiet, passing, passed-renewed, opened-renewed}
@@ -70,16 +70,6 @@ module _ (M : Machine) (Sound : M .State → Type 0) (keeps : KeepsTo M Sound) (
 
     abbrev used : Ask → ℕ
     used a = clockUsed connections v a
-
-    -- the connection is live at the call, told from the calls
-    abbrev LiveNow : Type 0
-    LiveNow = max (clockIn (M .reads q)) (t .passClock) < t .until
-
-    -- then a call that asks is not passed on the opening's entry
-    abbrev Elsewhere : Type 0
-    Elsewhere =
-        (a : Ask) → M .reads q ≡ asks a → t .opened ≡ true → LiveNow → passes M t q ≡ true →
-        M .run (t .state) q .place ≡ t .place → ⊥
 
     -- a call that does not pass leaves the table as it was
     blocked-same : passes M t q ≡ false → M .view (M .run (t .state) q .next) ≡ v
@@ -154,21 +144,28 @@ module _ (M : Machine) (Sound : M .State → Type 0) (keeps : KeepsTo M Sound) (
 
     -- a connection that is live as told is live by its deadline
     live-now :
-        (c : Connection) → Alive t c → (a : Ask) → M .reads q ≡ asks a → LiveNow →
+        (c : Connection) → Alive t c → (a : Ask) → M .reads q ≡ asks a → Live M t q →
         used a < c .deadline
     live-now c al a read live =
         let given = ap clockIn read in
-        omega (arith, kept .clock, al .told-early)
+        omega (arith, kept .clock, al .told-early, live, given)
 
-    other-phase : Elsewhere → Asked → passes M t q ≡ true → Phase t → Phase (afterCall M t q other)
+    other-phase : (PassedOnOurs M t q → ⊥) → Asked → passes M t q ≡ true → Phase t → Phase (afterCall M t q other)
     unfolding afterCall
     other-phase fair x e (before closed none) = before closed none
     other-phase fair x e (dead opened-t late) = dead opened-t (omega (arith, late, clocks-rise))
     other-phase fair x e (alive opened-t c al) =
         ⊎-elim
-        (λ (live : LiveNow).
-        let elsewhere : placeBy (M .number) (filter connections v (x .ask)) ≡ M .number (al .place) → ⊥ =
-        λ same. fair (x .ask) (x .read) opened-t live e (x .place ∙ same ∙ al .numbered) in
+        (λ (under : max (clockIn (M .reads q)) (t .passClock) < t .until).
+        let live : Live M t q = omega (arith, under) in
+        let read = x .read in
+        let elsewhere : placeBy (M .number) (filter connections v (x .ask)) ≡ M .number (al .place) → ⊥ = λ same. fair record {
+          after-opening = opened-t;
+          live = live;
+          not-apart = λ is. false-true cc;
+          answered-0 = e;
+          place = x .place ∙ same ∙ al .numbered;
+        } in
         let now = live-now c al (x .ask) (x .read) live in
         let r =
         pass-elsewhere P known v sound-before (M .number) (al .place) c (x .ask) (al .ours) (al .others) now (x .answer)
@@ -187,7 +184,7 @@ module _ (M : Machine) (Sound : M .State → Type 0) (keeps : KeepsTo M Sound) (
         dead opened-t (omega (arith, late, next)))
         (lt-or-ge (max (clockIn (M .reads q)) (t .passClock)) (t .until))
 
-    pub other-kept : Elsewhere → Table-kept (afterCall M t q other)
+    pub other-kept : (PassedOnOurs M t q → ⊥) → Table-kept (afterCall M t q other)
     unfolding afterCall
     other-kept fair =
         ⊎-elim (by-reading (M .reads q) refl) (λ (e : passes M t q ≡ false). unmoved (blocked-same e) (if-false _ _ _ e))
@@ -268,7 +265,7 @@ module _ (M : Machine) (Sound : M .State → Type 0) (keeps : KeepsTo M Sound) (
 
     module _
         (p : LineSegment) (a : Ask) (read : M .reads q ≡ asks a) (brings : a .segment ≡ onWire p) (asked-p : AskOf P (p .from) a)
-        (no-reset : rst (p .flags) ≡ 1 → ⊥) (c : Connection) (al : Alive t c) (live : LiveNow)
+        (no-reset : rst (p .flags) ≡ 1 → ⊥) (c : Connection) (al : Alive t c) (live : Live M t q)
         (verdict : verdictOn c (p .from) (onWire p) ≡ Pass) where
       abbrev left-entry : Entry connections
       left-entry = ours P (passed c (p .from) (onWire p) (used a))
@@ -358,13 +355,7 @@ module _ (M : Machine) (Sound : M .State → Type 0) (keeps : KeepsTo M Sound) (
   after-other q L inv fair =
       let pr = protocol-called P (told M s₀ L .passed) (λ j g. Arrived j g L) L (inv .protocol) q other in
       record {
-        table = other-kept (told M s₀ L) (inv .table) q (λ a read after-opening live answered-0 place. fair record {
-          after-opening = after-opening;
-          live = live;
-          not-apart = λ is. false-true cc;
-          answered-0 = answered-0;
-          place = place;
-        });
+        table = other-kept (told M s₀ L) (inv .table) q fair;
         protocol = record {
           facts = pr .facts;
           order = pr .order;

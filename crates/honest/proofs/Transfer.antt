@@ -1,9 +1,10 @@
 -- A list that is legal over the filter is legal over every machine that keeps to it and is asked the same.
-use Prim.Native.Nat.{ℕ, zero, suc, _+_, _<_, max}
+use Prim.Native.Nat.{ℕ, zero, suc, _+_, max}
 use mathlib.Core.Path.{_≡_, refl, sym, ap, _∙_}
 use mathlib.Core.Logic.{inl, inr, ⊎-elim}
 use mathlib.Core.Bool.{true, false}
 use mathlib.Core.List.{List, [], _∷_, map, reverse}
+use native.Mathlib.Omega.{arith}
 use lib.ListN.{length}
 use borrow.Author.Tests.{ne-eqb}
 use Rattle.choice.specs.Choice.{if_then_else_, _=ᵇ_}
@@ -14,7 +15,7 @@ use Rattle.rows.specs.Connections.{connections}
 use Rattle.history.specs.History.{LineSegment, stageOf}
 use Rattle.honest.specs.Machine.{refused, asks, Machine, clockIn, KeepsTo}
 use Rattle.honest.specs.Rules.{Label, opening, arrival, other, Event, send, call, delivery, Pair, sentBy, Sent, Arrived, receivedBy, answered, Honest, first, later}
-use Rattle.honest.specs.Honest.{Told, passes, nextClock, afterSegment, afterCall, told, said, Live, Passed, Arrives, FairCall, Legal}
+use Rattle.honest.specs.Honest.{Told, passes, nextClock, afterSegment, afterCall, told, said, Passed, Arrives, FairCall, Legal}
 use Rattle.honest.specs.Instance.{ViewCall, viewMachine}
 use Rattle.honest.specs.Carries.{Carries, none, sent, called, refused-alone, delivered, LegalCarried, withCall, withOther, readings, ifAsked, otherAnswers, summaryOf, SummaryCarried}
 
@@ -205,6 +206,12 @@ module _ (M : Machine) (Sound : M .State → Type 0) (keeps : KeepsTo M Sound) (
     place-same : told M s₀ L .place ≡ told F t₀ N .place
     place-same = ap (λ (t : Told F). t .place) (sym (told-same c))
 
+    clock-same : told M s₀ L .passClock ≡ told F t₀ N .passClock
+    clock-same = ap (λ (t : Told F). t .passClock) (sym (told-same c))
+
+    until-same : told M s₀ L .until ≡ told F t₀ N .until
+    until-same = ap (λ (t : Told F). t .until) (sym (told-same c))
+
     module _ (q : M .Call) (b : ViewCall) (is : M .reads q ≡ asks (b .0)) where
       said-answer-same : said M s₀ L q .answer ≡ said F t₀ N b .answer
       said-answer-same = keeps .answered _ q (b .0) (told-sound c) is ∙ ap (λ (t : View connections). F .run t b .answer) view-same
@@ -216,8 +223,8 @@ module _ (M : Machine) (Sound : M .State → Type 0) (keeps : KeepsTo M Sound) (
       unfolding passes
       passes-same = ap (λ (n : ℕ). n =ᵇ 0) said-answer-same
 
-      live-same : Live M s₀ q L ≡ Live F t₀ b N
-      live-same = λ i. max (clockIn (is i)) (sym (told-same c) i .passClock) < sym (told-same c) i .until
+      clock-given : clockIn (M .reads q) ≡ b .0 .clock
+      clock-given = ap clockIn is
 
       arrives-carried : (P : Pair) (k : ℕ) (p : LineSegment) → Arrives F P k p b N → Arrives M P k p q L
       arrives-carried P k p a = record { sent = sent-carried M k p c (a .sent); clock = a .clock; brings = is ∙ a .brings }
@@ -234,11 +241,11 @@ module _ (M : Machine) (Sound : M .State → Type 0) (keeps : KeepsTo M Sound) (
         after-opening = opened-same ∙ r .after-opening;
         arrives = arrives-carried P k p (r .arrives);
         in-order = λ j g was. r .in-order j g (arrived-carries M j g c was);
-        live = rw live-same (r .live);
+        live = omega (arith, r .live, clock-given, clock-same, until-same);
       }
       fair-call-carried P other elsewhere = λ on-ours. elsewhere record {
         after-opening = sym opened-same ∙ on-ours .after-opening;
-        live = rw live-same at (on-ours .live);
+        live = omega (arith, on-ours .live, clock-given, clock-same, until-same);
         not-apart = λ never. false-true cc;
         answered-0 = sym passes-same ∙ on-ours .answered-0;
         place = sym said-place-same ∙ on-ours .place ∙ place-same;

@@ -64,6 +64,10 @@ module _ (M : Machine) where
     until = t .until;
   }
 
+  -- live at a call, told from the calls: the larger of this call's clock and the pass clock is under `until`
+  abbrev pub Live : Told → M .Call → Type 0
+  Live t q = max (clockIn (M .reads q)) (t .passClock) < t .until
+
   module _ (s₀ : M .State) where
     -- each call is lent the table that the last one left
     unfoldable pub told : Events → Told
@@ -74,10 +78,6 @@ module _ (M : Machine) where
 
     abbrev pub said : Events → M .Call → Said (M .State)
     said L q = M .run (told L .state) q
-
-    -- live at a call, told from the calls: the larger of the call's clock and the pass clock is under the connection's `until`
-    abbrev pub Live : M .Call → Events → Type 0
-    Live q L = max (clockIn (M .reads q)) (told L .passClock) < told L .until
 
     -- an arrival of an end's k-th sending, p, was answered 0
     abbrev pub Passed : ℕ → LineSegment → Events → Type 0
@@ -95,14 +95,14 @@ module _ (M : Machine) where
     pub brings : M .reads q ≡ asks (record { side = sideOf P (p .from); clock = clock; key = keyOf P (p .from); segment = onWire p })
 
   -- the call is passed on the opening's entry, by its place
-  pub record PassedOnOurs (s₀ : M .State) (q : M .Call) (L : Events) : Type 0 where
-    pub after-opening : told s₀ L .opened ≡ true
+  pub record PassedOnOurs (t : Told) (q : M .Call) : Type 0 where
+    pub after-opening : t .opened ≡ true
     -- once that entry has expired, its place may be another's
-    pub live : Live s₀ q L
+    pub live : Live t q
     -- a call on another part of the table isn't on it, whatever its place
     pub not-apart : M .reads q ≡ apart → ⊥
-    pub answered-0 : passes (told s₀ L) q ≡ true
-    pub place : said s₀ L q .place ≡ told s₀ L .place
+    pub answered-0 : passes t q ≡ true
+    pub place : M .run (t .state) q .place ≡ t .place
 
   module _ (s₀ : M .State) (P : Pair) where
     -- the opening: an arrival of the opener's SYN that finds no live match and is answered 0
@@ -120,13 +120,13 @@ module _ (M : Machine) where
       pub after-opening : told s₀ L .opened ≡ true
       pub arrives : Arrives P k p q L
       pub in-order : InOrder (λ j g. Arrived j g L) (p .from) k
-      pub live : Live s₀ q L
+      pub live : Live (told s₀ L) q
 
     abbrev pub FairCall : Label → M .Call → Events → Type 0
     FairCall (opening k p) q L = Opening k p q L
     FairCall (arrival k p) q L = Arrival k p q L
     -- a call that is no arrival may give anything, but isn't passed on the opening's entry
-    FairCall other q L = PassedOnOurs s₀ q L → ⊥
+    FairCall other q L = PassedOnOurs (told s₀ L) q → ⊥
 
     abbrev pub Fair : Event (M .Call) → Events → Type 0
     -- a sending keeps the rules by what was delivered before it, and its packet is well formed
