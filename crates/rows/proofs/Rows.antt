@@ -18,11 +18,12 @@ use Rattle.rows.specs.declared.Found.the-variants.{At, Nothing}
 use Rattle.rows.proofs.Places.{found-passes, found-is-first}
 
 module _ (B : Bodies) where
+  -- the sender is the opener, 0, or the answerer, 1
   pub sender-known : (e : Entry B) (side : ℕ) → senderOf B e side < 2
   unfolding senderOf
   sender-known e side = if-either (λ i. i < 2) _ _ _ (omega arith) (omega arith)
 
-  -- it is the end that the segment matches as
+  -- the end that the segment matches as
   pub sender-opener : (e : Entry B) (side : ℕ) (k : Flow) → fromOpener B e side k ≡ true → senderOf B e side ≡ 0
   unfolding senderOf fromOpener
   sender-opener e side k is = if-true _ _ _ (&&-true (side =ᵇ B .side (e .connection)) _ is .0)
