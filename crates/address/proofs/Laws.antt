@@ -1,13 +1,12 @@
 -- Laws of addresses: all that is asked of a version above this crate.
-use Prim.Native.Nat.{ℕ, _+_, _%_, _≤_, _<_}
-use mathlib.Core.Path.{_≡_, refl, sym, ap, _∙_}
+use Prim.Native.Nat.{ℕ, _+_, _%_, _≤_}
+use mathlib.Core.Path.{_≡_, refl, _∙_}
 use mathlib.Core.List.{List, _++_}
 use native.Mathlib.Omega.{arith}
 use lib.ListN.{length, take, drop, length-append}
 use Rattle.octets.specs.Octets.{Octets}
 use Rattle.octets.specs.BigEndian.{bigEndian, octetsOf}
 use Rattle.octets.specs.Digits.{digits, number}
-use Rattle.octets.specs.Overwrite.{overwrite}
 use Rattle.octets.proofs.Agree.{Agree, part-agree}
 use Rattle.octets.proofs.BigEndian.{length-octetsOf, bigEndian-agree, bigEndian<256^n, bigEndian-octetsOf, octetsOf-bigEndian, octetsOf-add}
 use Rattle.octets.proofs.Octets.{Bytes, bytes-++, bytes-octetsOf}

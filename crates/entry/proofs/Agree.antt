@@ -12,11 +12,11 @@ use Rattle.address.specs.Address.{addressSize, addressAt, endpointAt}
 use Rattle.address.specs.declared.Version.{Version}
 use Rattle.address.proofs.Laws.{addressAt-agree}
 use Rattle.connection.specs.Ends.{count, seqNum}
-use Rattle.entry.specs.Layout.{restSize, portsAt, numbersAt, restAt, entrySize, endAt, connectionAt, entryAt}
+use Rattle.entry.specs.Layout.{restSize, blankAt, portsAt, numbersAt, restAt, entrySize, endAt, connectionAt, entryAt}
 
 -- zero bytes zero: the one after the FIN bits, and the last 16 or 24
 pub record ZeroBytes (v : Version) (t : List ℕ) (at : ℕ) : Type 0 where
-  pub after-fins : getD t (at + 3) 0 ≡ 0
+  pub after-fins : getD t (blankAt at) 0 ≡ 0
   pub last : (i : ℕ) → i < restSize v → getD t (restAt v at + i) 0 ≡ 0
 
 module _ (v : Version) (l : List ℕ) (at : ℕ) (m : List ℕ) (there : ℕ) (same : Agree l at m there (entrySize v)) where

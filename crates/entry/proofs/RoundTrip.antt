@@ -1,7 +1,7 @@
 -- What is stored is read back, and an entry whose zero bytes are zero is stored as the bytes that it was read from.
 use Prim.Native.Nat.{ℕ, _+_, _^_, _≤_, _<_}
 use mathlib.Core.Path.{_≡_, refl, sym, ap, _∙_}
-use mathlib.Core.List.{List, [], _∷_, _++_}
+use mathlib.Core.List.{List, [], _∷_}
 use native.Mathlib.Omega.{arith}
 use lib.ListN.{length, getD, take, drop, replicate, length-drop, length-replicate, getD-replicate}
 use lib.Seq.{ext-getD, getD-take, getD-drop, length-take-le, drop-cons}
@@ -9,7 +9,7 @@ use Rattle.octets.specs.Octets.{Octets}
 use Rattle.octets.specs.BigEndian.{bigEndian, octetsOf}
 use Rattle.octets.specs.Digits.{number, digits}
 use Rattle.octets.specs.Overwrite.{overwrite}
-use Rattle.octets.proofs.Agree.{Agree, overwrite-agree}
+use Rattle.octets.proofs.Agree.{overwrite-agree}
 use Rattle.octets.proofs.BigEndian.{bigEndian-octetsOf, octetsOf-bigEndian}
 use Rattle.octets.proofs.Overwrite.{part-append}
 use Rattle.address.specs.Address.{addressSize, addressAt, addressOctets, flowAt}

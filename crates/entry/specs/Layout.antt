@@ -20,9 +20,15 @@ abbrev pub restSize : Version → ℕ
 restSize V4 = 16
 restSize V6 = 24
 
--- where the ports of the entry at an offset begin, its numbers, and the zeros that end it
+-- where the zero byte of the entry at an offset stands, and where its addresses begin, its ports, its numbers, and the zeros that end it
+abbrev pub blankAt : ℕ → ℕ
+blankAt at = at + 3
+
+abbrev pub addressesAt : ℕ → ℕ
+addressesAt at = at + 4
+
 abbrev pub portsAt : Version → ℕ → ℕ
-portsAt v at = at + 4 + addressSize v + addressSize v
+portsAt v at = addressesAt at + addressSize v + addressSize v
 
 abbrev pub numbersAt : Version → ℕ → ℕ
 numbersAt v at = portsAt v at + 4
@@ -78,6 +84,6 @@ connectionAt t at numbers = record {
 -- the entry whose bytes begin at an offset
 unfoldable pub entryAt : Version → List ℕ → ℕ → Entry
 entryAt v t at = record {
-  key = flowAt v t (at + 4) (portsAt v at);
+  key = flowAt v t (addressesAt at) (portsAt v at);
   connection = connectionAt t at (numbersAt v at);
 }

@@ -1,6 +1,6 @@
 -- An entry as rows 11 to 15 and 0 see it.
-use Rattle.rows.specs.Rows as rows
 use Rattle.rows.specs.Connections.{connections}
+use Rattle.rows.specs.Rows as rows
 use Rattle.entry.specs.declared.Entry.{Entry}
 
 abbrev pub viewed : Entry → rows.Entry connections

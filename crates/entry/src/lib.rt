@@ -5,7 +5,7 @@ ghost use Prim.Native.Nat.{_+_, _^_, _≤_, _<_};
 ghost use lib.ListN.{length, replicate};
 ghost use Rattle.octets.specs.Overwrite.{overwrite};
 ghost use Rattle.address.specs.Address.{addressSize};
-ghost use Rattle.entry.specs.Layout.{placeAt, entrySize, restSize, numbersAt, entryAt, connectionAt, endAt, entryBytes, marksBytes, flowBytes, numbersBytes, endBytes};
+ghost use Rattle.entry.specs.Layout.{placeAt, entrySize, restSize, addressesAt, portsAt, numbersAt, restAt, entryAt, connectionAt, endAt, entryBytes, marksBytes, flowBytes, numbersBytes, endBytes};
 use address::Flow;
 use address::Version;
 use address::address_size;
@@ -29,6 +29,25 @@ pub struct Entry {
 
 // The layout
 
+const HEADER_SIZE: usize = 64;
+
+// An entry begins with its marks: stage, opener's side, FIN bits, zero.
+pub const SIDE: usize = 1;
+
+const FINS: usize = 2;
+
+const BLANK: usize = 3;
+
+// Its numbers are the deadline, the opener's record and the answerer's.
+pub const OPENER: usize = 8;
+
+pub const ANSWERER: usize = 20;
+
+// A record is end, edge, win.
+const EDGE: usize = 4;
+
+const WIN: usize = 8;
+
 pub fn entry_size(version: Version) -> usize
     ensures { λ r. ⌜ r ≡ entrySize version ⌝ }
 {
@@ -43,33 +62,49 @@ pub fn place_at(version: Version, place: usize) -> usize
     requires { ⌜ placeAt version place < 2 ^ 64 ⌝ }
     ensures { λ r. ⌜ r ≡ placeAt version place ⌝ }
 {
-    match version {
-        Version::V4 => 64 + 64 * place,
-        Version::V6 => 64 + 96 * place,
-    }
+    HEADER_SIZE + entry_size(version) * place
 }
 
-// Where the deadline and the two records of the entry at an offset begin.
+// Where the parts of the entry at an offset begin: addresses, ports, numbers, and the zeros that end it.
+
+pub fn addresses_at(at: usize) -> usize
+    requires { ⌜ addressesAt at < 2 ^ 64 ⌝ }
+    ensures { λ r. ⌜ r ≡ addressesAt at ⌝ }
+{
+    at + 4
+}
+
+pub fn ports_at(version: Version, at: usize) -> usize
+    requires { ⌜ portsAt version at < 2 ^ 64 ⌝ }
+    ensures { λ r. ⌜ r ≡ portsAt version at ⌝ }
+{
+    addresses_at(at) + address_size(version) + address_size(version)
+}
+
 pub fn numbers_at(version: Version, at: usize) -> usize
     requires { ⌜ numbersAt version at < 2 ^ 64 ⌝ }
     ensures { λ r. ⌜ r ≡ numbersAt version at ⌝ }
 {
-    match version {
-        Version::V4 => at + 16,
-        Version::V6 => at + 40,
-    }
+    ports_at(version, at) + 4
+}
+
+pub fn rest_at(version: Version, at: usize) -> usize
+    requires { ⌜ restAt version at < 2 ^ 64 ⌝ }
+    ensures { λ r. ⌜ r ≡ restAt version at ⌝ }
+{
+    numbers_at(version, at) + 32
 }
 
 // Loading
 
-// One end's record: end, edge, win.
+// One end's record.
 pub fn load_end(table: &[u8], at: usize) -> End
     requires { ⌜ at + 12 ≤ length (now table) ⌝ }
     ensures { λ r. ⌜ r ≡ endAt (now (table .entry)) at ⌝ }
 {
     let end = read32(table, at);
-    let edge = read32(table, at + 4);
-    let win = read32(table, at + 8);
+    let edge = read32(table, at + EDGE);
+    let win = read32(table, at + WIN);
     End {
         end: SeqNum(end),
         edge: SeqNum(edge),
@@ -83,11 +118,11 @@ fn load_connection(table: &[u8], at: usize, numbers: usize) -> Connection
     ensures { λ r. ⌜ r ≡ connectionAt (now (table .entry)) at numbers ⌝ }
 {
     let stage = table[at];
-    let side = table[at + 1];
-    let fins = table[at + 2];
+    let side = table[at + SIDE];
+    let fins = table[at + FINS];
     let deadline = read64(table, numbers);
-    let opener = load_end(table, numbers + 8);
-    let answerer = load_end(table, numbers + 20);
+    let opener = load_end(table, numbers + OPENER);
+    let answerer = load_end(table, numbers + ANSWERER);
     Connection {
         stage: stage,
         side: side,
@@ -103,9 +138,8 @@ pub fn load(version: Version, table: &[u8], place: usize) -> Entry
     ensures { λ r. ⌜ r ≡ entryAt version (now (table .entry)) (placeAt version place) ⌝ }
 {
     let at = place_at(version, place);
-    let numbers = numbers_at(version, at);
-    let key = read_flow(version, table, at + 4, numbers - 4);
-    let connection = load_connection(table, at, numbers);
+    let key = read_flow(version, table, addresses_at(at), ports_at(version, at));
+    let connection = load_connection(table, at, numbers_at(version, at));
     Entry {
         key: key,
         connection: connection,
@@ -123,8 +157,8 @@ fn store_end(table: &mut [u8], at: usize, end: End)
     let edge = end.edge;
     let win = end.win;
     write32(table, at, last.0);
-    write32(table, at + 4, edge.0);
-    write32(table, at + 8, win.0);
+    write32(table, at + EDGE, edge.0);
+    write32(table, at + WIN, win.0);
 }
 
 // Stage, opener's side, FIN bits and the zero byte after them.
@@ -133,9 +167,9 @@ fn store_marks(table: &mut [u8], at: usize, connection: Connection)
     ensures { λ r. ⌜ now (table .exit) ≡ overwrite (now (table .entry)) at (marksBytes connection) ⌝ }
 {
     table[at] = connection.stage;
-    table[at + 1] = connection.side;
-    table[at + 2] = connection.fins;
-    table[at + 3] = 0;
+    table[at + SIDE] = connection.side;
+    table[at + FINS] = connection.fins;
+    table[at + BLANK] = 0;
 }
 
 // Both addresses, then both ports.
@@ -163,8 +197,8 @@ fn store_numbers(table: &mut [u8], at: usize, connection: Connection)
     let opener = connection.ends[0];
     let answerer = connection.ends[1];
     write64(table, at, connection.deadline);
-    store_end(table, at + 8, opener);
-    store_end(table, at + 20, answerer);
+    store_end(table, at + OPENER, opener);
+    store_end(table, at + ANSWERER, answerer);
 }
 
 fn store_zeros16(table: &mut [u8], at: usize)
@@ -200,11 +234,10 @@ pub fn store(version: Version, table: &mut [u8], place: usize, entry: Entry)
     ensures { λ r. ⌜ now (table .exit) ≡ overwrite (now (table .entry)) (placeAt version place) (entryBytes version entry) ⌝ }
 {
     let at = place_at(version, place);
-    let numbers = numbers_at(version, at);
     let connection = entry.connection;
     let key = entry.key;
     store_marks(table, at, connection);
-    store_flow(version, table, at + 4, key);
-    store_numbers(table, numbers, connection);
-    store_rest(version, table, numbers + 32);
+    store_flow(version, table, addresses_at(at), key);
+    store_numbers(table, numbers_at(version, at), connection);
+    store_rest(version, table, rest_at(version, at));
 }

@@ -1,13 +1,17 @@
 -- Laws of a match: the side decides, or the addresses and ports; and a match is live if it is not expired.
 use Prim.Native.Nat.{ℕ, _-_}
-use mathlib.Core.Path.{_≡_}
-use mathlib.Core.Bool.{true, false, _||_, and-true, and-false}
+use mathlib.Core.Path.{_≡_, sym, ap, _∙_}
+use mathlib.Core.Bool.{Bool, true, false, _||_, and-true, and-false}
+use mathlib.Core.List.{List}
 use borrow.Author.Tests.{lt-ltb, le-ltb, leb-true, leb-false}
 use Rattle.choice.specs.Choice.{_=ᵇ_}
 use Rattle.address.specs.Flows.{sameFlow, reversed}
+use Rattle.address.specs.declared.Version.{Version}
 use Rattle.address.specs.declared.Flow.{Flow}
+use Rattle.rows.specs.Rows as rows
 use Rattle.rows.specs.Rows.{fromOpener, fromAnswerer, liveMatch, vacant}
 use Rattle.rows.specs.Connections.{connections}
+use Rattle.entry.specs.Layout.{placeAt, entryAt}
 use Rattle.entry.specs.Viewed.{viewed}
 use Rattle.entry.specs.declared.Entry.{Entry}
 
@@ -39,3 +43,9 @@ module _ (e : Entry) (side : ℕ) (k : Flow) where
         liveMatch connections clock side k (viewed e) ≡ (fromOpener connections (viewed e) side k || fromAnswerer connections (viewed e) side k)
     unfolding liveMatch vacant
     live-by-match h = rw (lt-ltb _ _ (leb-false _ _ h))
+
+-- a test of the entry at a place, by the offset where the entry begins
+pub tested-at :
+    (test : rows.Entry connections → Bool) (v : Version) (t : List ℕ) (at p : ℕ) (r : Bool) → at ≡ placeAt v p →
+    r ≡ test (viewed (entryAt v t at)) → test (viewed (entryAt v t (placeAt v p))) ≡ r
+tested-at test v t at p r there e = sym (e ∙ ap (λ (k : ℕ). test (viewed (entryAt v t k))) there)

@@ -6,13 +6,13 @@ use mathlib.Core.List.{List}
 use lib.ListN.{getD}
 use Rattle.choice.specs.Choice.{_<ᵇ_, _=ᵇ_}
 use Rattle.octets.specs.BigEndian.{bigEndian}
-use Rattle.connection.specs.Sound.{soundConnection}
 use Rattle.address.specs.declared.Version.{Version}
 use Rattle.address.specs.declared.Version.the-variants.{V4, V6}
-use Rattle.entry.specs.Layout.{restSize, restAt, entrySize, placeAt, entryAt}
-use Rattle.entry.specs.Viewed.{viewed}
+use Rattle.connection.specs.Sound.{soundConnection}
 use Rattle.rows.specs.Rows.{View}
 use Rattle.rows.specs.Connections.{connections}
+use Rattle.entry.specs.Layout.{restSize, blankAt, restAt, entrySize, placeAt, entryAt}
+use Rattle.entry.specs.Viewed.{viewed}
 
 -- all of the k numbers from i on pass a test
 unfoldable pub allFrom : (ℕ → Bool) → ℕ → ℕ → Bool
@@ -29,19 +29,37 @@ TestsZeros t at n r = (r ≡ 0 → zerosAt t at n ≡ true) × (zerosAt t at n �
 
 -- Sound
 
--- header: clock (8), then zeros
-unfoldable pub headerClock : List ℕ → ℕ
-headerClock t = bigEndian 8 t 0
+-- header: clock (8), zeros (54), the version's mark (1), zero (1)
+abbrev pub clockAt : ℕ
+clockAt = 0
 
--- header byte 62
+abbrev pub headerZerosAt : ℕ
+headerZerosAt = 8
+
+abbrev pub headerZeros : ℕ
+headerZeros = 54
+
+abbrev pub markAt : ℕ
+markAt = 62
+
+abbrev pub lastAt : ℕ
+lastAt = 63
+
+unfoldable pub headerClock : List ℕ → ℕ
+headerClock t = bigEndian 8 t clockAt
+
+-- 1 in an IPv6 table and 0 otherwise
 abbrev pub headerMark : Version → ℕ
 headerMark V4 = 0
 headerMark V6 = 1
 
--- header clock under 2^48, byte 62 the version's and its rest zero
+-- header clock under 2^48, the mark its version's, and its rest zero
 unfoldable pub soundHeader : Version → List ℕ → Bool
 soundHeader v t =
-    (headerClock t <ᵇ 2 ^ 48) && (zerosAt t 8 54 && ((getD t 62 0 =ᵇ headerMark v) && (getD t 63 0 =ᵇ 0)))
+    (headerClock t <ᵇ 2 ^ 48)
+    && (zerosAt t headerZerosAt headerZeros
+    && ((getD t markAt 0 =ᵇ headerMark v)
+    && (getD t lastAt 0 =ᵇ 0)))
 
 -- a free entry is 64 or 96 zeros
 unfoldable pub freeAt : Version → List ℕ → ℕ → Bool
@@ -51,7 +69,7 @@ freeAt v t p = zerosAt t (placeAt v p) (entrySize v)
 unfoldable pub soundAt : Version → List ℕ → ℕ → Bool
 soundAt v t p =
     freeAt v t p
-    || ((getD t (placeAt v p + 3) 0 =ᵇ 0)
+    || ((getD t (blankAt (placeAt v p)) 0 =ᵇ 0)
     && (zerosAt t (restAt v (placeAt v p)) (restSize v)
     && soundConnection (headerClock t) (entryAt v t (placeAt v p) .connection)))
 

@@ -7,20 +7,27 @@ ghost use Rattle.octets.specs.BigEndian.{octetsOf};
 ghost use Rattle.octets.specs.Overwrite.{overwrite};
 ghost use Rattle.connection.specs.Sound.{soundEnd, soundUnanswered};
 ghost use Rattle.address.specs.Flows.{sameFlow, reversed};
-ghost use Rattle.entry.specs.Layout.{headerSize, restSize, numbersAt, entrySize, placeAt, entryAt};
+ghost use Rattle.entry.specs.Layout.{headerSize, restSize, entrySize, placeAt, entryAt};
 ghost use Rattle.entry.specs.Viewed.{viewed};
 ghost use Rattle.rows.specs.Rows.{fromOpener, fromAnswerer, liveMatch, vacant, search, lowestVacant};
 ghost use Rattle.rows.specs.Connections.{connections};
-ghost use Rattle.table.specs.Table.{headerClock, headerMark, TestsZeros, soundHeader, soundTable, viewOf};
+ghost use Rattle.table.specs.Table.{TestsZeros, clockAt, headerClock, headerMark, soundHeader, soundTable, viewOf};
 ghost use Rattle.table.specs.Words.{soundWord, soundNumbers, soundEntry};
 use address::Flow;
 use address::Version;
 use address::flow_is;
 use address::reversed;
 use connection::End;
+use entry::ANSWERER;
+use entry::OPENER;
+use entry::SIDE;
+use entry::addresses_at;
 use entry::entry_size;
 use entry::load_end;
 use entry::numbers_at;
+use entry::place_at;
+use entry::ports_at;
+use entry::rest_at;
 use octets::little32;
 use octets::read64;
 use octets::write64;
@@ -62,15 +69,29 @@ fn any16(table: &[u8], at: usize) -> u64
     either(any8(table, at), any8(table, at + 8))
 }
 
-// The same of 64 octets, a whole IPv4 entry.
+fn any32(table: &[u8], at: usize) -> u64
+    requires { ⌜ at + 32 ≤ length (now table) ⌝ }
+    ensures { λ r. ⌜ TestsZeros (now (table .entry)) at 32 r ⌝ }
+{
+    either(any16(table, at), any16(table, at + 16))
+}
+
+// The header's zeros up to its last word.
+fn any52(table: &[u8], at: usize) -> u64
+    requires { ⌜ at + 52 ≤ length (now table) ⌝ }
+    ensures { λ r. ⌜ TestsZeros (now (table .entry)) at 52 r ⌝ }
+{
+    either(
+        any32(table, at),
+        either(any16(table, at + 32), any4(table, at + 48)),
+    )
+}
+
 fn any64(table: &[u8], at: usize) -> u64
     requires { ⌜ at + 64 ≤ length (now table) ⌝ }
     ensures { λ r. ⌜ TestsZeros (now (table .entry)) at 64 r ⌝ }
 {
-    either(
-        either(any16(table, at), any16(table, at + 16)),
-        either(any16(table, at + 32), any16(table, at + 48)),
-    )
+    either(any32(table, at), any32(table, at + 32))
 }
 
 // The same of a whole entry of either version.
@@ -80,10 +101,7 @@ fn any_entry(version: Version, table: &[u8], at: usize) -> u64
 {
     match version {
         Version::V4 => any64(table, at),
-        Version::V6 => either(
-            any64(table, at),
-            either(any16(table, at + 64), any16(table, at + 80)),
-        ),
+        Version::V6 => either(any64(table, at), any32(table, at + 64)),
     }
 }
 
@@ -98,21 +116,27 @@ fn any_rest(version: Version, table: &[u8], at: usize) -> u64
     }
 }
 
-// The header
+// The header: clock (8), zeros (54), the version's mark (1), zero (1)
+
+const CLOCK: usize = 0;
+
+const ZEROS: usize = 8;
+
+const LAST_WORD: usize = 60;
 
 // The header clock.
 pub fn clock(table: &[u8]) -> u64
     requires { ⌜ headerSize ≤ length (now table) ⌝ }
     ensures { λ r. ⌜ r ≡ headerClock (now (table .entry)) ⌝ }
 {
-    read64(table, 0)
+    read64(table, CLOCK)
 }
 
 pub fn set_clock(table: &mut [u8], clock: u64)
     requires { ⌜ headerSize ≤ length (now table) ⌝ }
-    ensures { λ r. ⌜ now (table .exit) ≡ overwrite (now (table .entry)) 0 (octetsOf 8 clock) ⌝ }
+    ensures { λ r. ⌜ now (table .exit) ≡ overwrite (now (table .entry)) clockAt (octetsOf 8 clock) ⌝ }
 {
-    write64(table, 0, clock);
+    write64(table, CLOCK, clock);
 }
 
 // The search
@@ -132,8 +156,13 @@ fn key_is(version: Version, table: &[u8], at: usize, flow: Flow) -> bool
     requires { ⌜ at + entrySize version ≤ length (now table) ⌝ }
     ensures { λ r. ⌜ r ≡ sameFlow flow (entryAt version (now (table .entry)) at .key) ⌝ }
 {
-    let numbers = numbers_at(version, at);
-    flow_is(version, table, at + 4, numbers - 4, flow)
+    flow_is(
+        version,
+        table,
+        addresses_at(at),
+        ports_at(version, at),
+        flow,
+    )
 }
 
 // The opener's way round, by the entry at an offset.
@@ -144,7 +173,7 @@ fn from_opener_at(version: Version, table: &[u8], at: usize, side: u8, flow: Flo
     if !key_is(version, table, at, flow) {
         return false;
     }
-    side == table[at + 1]
+    side == table[at + SIDE]
 }
 
 // The answerer's way round.
@@ -156,7 +185,7 @@ fn from_answerer_at(version: Version, table: &[u8], at: usize, side: u8, flow: F
     if !key_is(version, table, at, back) {
         return false;
     }
-    side == other_side(table[at + 1])
+    side == other_side(table[at + SIDE])
 }
 
 // Free or expired: a free entry's deadline is 0.
@@ -201,7 +230,7 @@ pub fn find(
     ensures { λ r. ⌜ r ≡ search connections (viewOf version (now (table .entry)) places) clock side flow ⌝ }
 {
     let size = entry_size(version);
-    let mut at = 64;
+    let mut at = place_at(version, 0);
     let mut place = 0;
     let found = loop {
         if places <= place {
@@ -222,7 +251,7 @@ pub fn vacant(version: Version, table: &[u8], places: usize, clock: u64) -> Foun
     ensures { λ r. ⌜ r ≡ lowestVacant connections (viewOf version (now (table .entry)) places) clock ⌝ }
 {
     let size = entry_size(version);
-    let mut at = 64;
+    let mut at = place_at(version, 0);
     let mut next = 0;
     let found = loop {
         if places <= next {
@@ -268,7 +297,7 @@ fn sound_end(end: End) -> bool
     end.edge.minus(end.end).at_most(OctetCount(65_535))
 }
 
-// Deadline, both records and the zeros that end an entry, by where its numbers begin.
+// Deadline, both records and the zeros that end the entry at an offset.
 fn sound_numbers(
     version: Version,
     table: &[u8],
@@ -277,10 +306,10 @@ fn sound_numbers(
     opener: End,
     answerer: End,
 ) -> bool
-    requires { ⌜ (at + 32 + restSize version ≤ length (now table)) × (clock < 2 ^ 48) ⌝ }
+    requires { ⌜ (at + entrySize version ≤ length (now table)) × (clock < 2 ^ 48) ⌝ }
     ensures { λ r. ⌜ r ≡ soundNumbers version (now (table .entry)) clock at opener answerer ⌝ }
 {
-    if clock + 432_000_000 < read64(table, at) {
+    if clock + 432_000_000 < read64(table, numbers_at(version, at)) {
         return false;
     }
     if !sound_end(opener) {
@@ -289,7 +318,7 @@ fn sound_numbers(
     if !sound_end(answerer) {
         return false;
     }
-    any_rest(version, table, at + 32) == 0
+    any_rest(version, table, rest_at(version, at)) == 0
 }
 
 // In stage 1 the opener's edge equals its end and the answerer has 0, 0, 1.
@@ -321,9 +350,9 @@ fn sound_entry(version: Version, table: &[u8], clock: u64, at: usize) -> bool
         return false;
     }
     let numbers = numbers_at(version, at);
-    let opener = load_end(table, numbers + 8);
-    let answerer = load_end(table, numbers + 20);
-    if !sound_numbers(version, table, clock, numbers, opener, answerer) {
+    let opener = load_end(table, numbers + OPENER);
+    let answerer = load_end(table, numbers + ANSWERER);
+    if !sound_numbers(version, table, clock, at, opener, answerer) {
         return false;
     }
     if word % 256 == 1 {
@@ -332,8 +361,8 @@ fn sound_entry(version: Version, table: &[u8], clock: u64, at: usize) -> bool
     true
 }
 
-// Header byte 62, as a word with the octets around it.
-fn header_mark(version: Version) -> u32
+// The header's last four octets as one word, lowest first: two of its zeros, the mark, a zero.
+fn last_word(version: Version) -> u32
     ensures { λ r. ⌜ r ≡ headerMark version * 65536 ⌝ }
 {
     match version {
@@ -342,7 +371,7 @@ fn header_mark(version: Version) -> u32
     }
 }
 
-// Header clock under 2^48, the version's mark, and the header's rest zero.
+// Header clock under 2^48, the version's mark, and the header's rest zero. The mark and the octets beside it are one load and one test.
 fn sound_header(version: Version, table: &[u8]) -> bool
     requires { ⌜ headerSize ≤ length (now table) ⌝ }
     ensures { λ r. ⌜ r ≡ soundHeader version (now (table .entry)) ⌝ }
@@ -350,14 +379,10 @@ fn sound_header(version: Version, table: &[u8]) -> bool
     if 281_474_976_710_656 <= clock(table) {
         return false;
     }
-    if little32(table, 60) != header_mark(version) {
+    if little32(table, LAST_WORD) != last_word(version) {
         return false;
     }
-    either(
-        any16(table, 8),
-        either(any16(table, 24), either(any16(table, 40), any4(table, 56))),
-    )
-        == 0
+    any52(table, ZEROS) == 0
 }
 
 // Whether the table is sound: its header, and every place.
@@ -370,7 +395,7 @@ pub fn sound(version: Version, table: &[u8], places: usize) -> bool
     }
     let header = clock(table);
     let size = entry_size(version);
-    let mut at = 64;
+    let mut at = place_at(version, 0);
     let mut checked = 0;
     while checked < places {
         if !sound_entry(version, table, header, at) {

@@ -1,5 +1,3 @@
-use native.Mathlib.Omega.{arith}
-use mathlib.Core.Path.{refl, sym, ap, _∙_}
 use borrow.Author.Needs.{needs}
 use Rattle.address.proofs.read_endpoint.Statement.{statement}
 use Rattle.address.proofs.read_endpoint.Tie as tie

@@ -1,10 +1,8 @@
-use Rattle.entry.specs.Layout.{flowBytes}
-use Rattle.address.proofs.Laws.{length-addressOctets}
+use native.Mathlib.Omega.{arith}
 use Rattle.octets.proofs.BigEndian.{length-octetsOf}
 use Rattle.octets.proofs.Overwrite.{overwrite-both}
-use Rattle.address.specs.declared.Version.{Version}
-use native.Mathlib.Omega.{arith}
-use mathlib.Core.Path.{refl, sym, ap, _∙_}
+use Rattle.address.proofs.Laws.{length-addressOctets}
+use Rattle.entry.specs.Layout.{flowBytes}
 use borrow.Author.Needs.{needs}
 use Rattle.entry.proofs.store_flow.Statement.{statement}
 use Rattle.entry.proofs.store_flow.Tie as tie

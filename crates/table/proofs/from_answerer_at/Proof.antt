@@ -1,11 +1,9 @@
+use mathlib.Core.Path.{sym, ap, _∙_}
+use borrow.Author.Tests.{not-true, not-false}
 use Rattle.address.specs.Flows.{sameFlow}
 use Rattle.address.specs.declared.Flow.{Flow}
-use Rattle.table.proofs.Match.{answerer-not-by-key, answerer-by-side}
 use Rattle.entry.specs.Layout.{entryAt, connectionAt}
-use Rattle.address.specs.declared.Version.{Version}
-use borrow.Author.Tests.{eq-eqb, ne-eqb, not-true, not-false}
-use native.Mathlib.Omega.{arith}
-use mathlib.Core.Path.{_≡_, refl, sym, ap, subst⁻¹, _∙_}
+use Rattle.table.proofs.Match.{answerer-not-by-key, answerer-by-side}
 use borrow.Author.Needs.{needs}
 use Rattle.table.proofs.from_answerer_at.Statement.{statement}
 use Rattle.table.proofs.from_answerer_at.Tie as tie

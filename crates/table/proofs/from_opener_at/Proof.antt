@@ -1,9 +1,7 @@
-use Rattle.table.proofs.Match.{opener-not-by-key, opener-by-side}
+use mathlib.Core.Path.{sym, _∙_}
+use borrow.Author.Tests.{not-true, not-false}
 use Rattle.entry.specs.Layout.{entryAt, connectionAt}
-use Rattle.address.specs.declared.Version.{Version}
-use borrow.Author.Tests.{eq-eqb, ne-eqb, not-true, not-false}
-use native.Mathlib.Omega.{arith}
-use mathlib.Core.Path.{_≡_, refl, sym, ap, subst⁻¹, _∙_}
+use Rattle.table.proofs.Match.{opener-not-by-key, opener-by-side}
 use borrow.Author.Needs.{needs}
 use Rattle.table.proofs.from_opener_at.Statement.{statement}
 use Rattle.table.proofs.from_opener_at.Tie as tie

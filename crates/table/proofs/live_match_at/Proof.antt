@@ -1,8 +1,5 @@
+use mathlib.Core.Path.{sym, _∙_}
 use Rattle.table.proofs.Match.{not-live-by-expired, live-by-match}
-use Rattle.address.specs.declared.Version.{Version}
-use borrow.Author.Tests.{eq-eqb, ne-eqb, not-true, not-false}
-use native.Mathlib.Omega.{arith}
-use mathlib.Core.Path.{_≡_, refl, sym, ap, subst⁻¹, _∙_}
 use borrow.Author.Needs.{needs}
 use Rattle.table.proofs.live_match_at.Statement.{statement}
 use Rattle.table.proofs.live_match_at.Tie as tie

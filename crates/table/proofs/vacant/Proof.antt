@@ -1,18 +1,17 @@
+-- What is left to search: the places from `next` on.
+use Prim.Native.Nat.{_-_, _≤_}
+use mathlib.Core.Path.{_≡_, sym, _∙_}
+use native.Mathlib.Omega.{arith}
+use native.Mathlib.Nat.{sub-zero}
 use Rattle.rows.specs.Rows as rows
 use Rattle.rows.specs.Places.{firstFrom}
 use Rattle.rows.specs.Connections.{connections}
-use Rattle.entry.specs.Viewed.{viewed}
-use Rattle.table.specs.Table.{viewOf}
 use Rattle.rows.proofs.Places.{first-is-here, first-is-further, first-is-nothing}
+use Rattle.entry.specs.Layout.{entrySize, placeAt}
+use Rattle.entry.proofs.Places.{first-place, next-place, place-inside}
+use Rattle.table.specs.Table.{viewOf}
+use Rattle.table.proofs.Match.{tested-at}
 use borrow.Author.Needs.{needs}
-use Rattle.entry.proofs.Places.{first-place, next-place, place-inside, header-first}
-use Rattle.entry.specs.Layout.{entrySize, placeAt, entryAt}
-use native.Mathlib.Nat.{sub-zero}
-use Prim.Native.Nat.{ℕ, _-_, _≤_}
-use Rattle.address.specs.declared.Version.{Version}
-use borrow.Author.Tests.{eq-eqb, ne-eqb, not-true, not-false}
-use native.Mathlib.Omega.{arith}
-use mathlib.Core.Path.{_≡_, refl, sym, ap, subst⁻¹, _∙_}
 use Rattle.table.proofs.vacant.Statement.{statement}
 use Rattle.table.proofs.vacant.Tie as tie
 
@@ -21,7 +20,8 @@ Inv-loop version table places clock size at₀ next₀ at next =
     (next ≤ places)
     × (size ≡ entrySize version)
     × (at ≡ placeAt version next)
-    × (rows.lowestVacant connections (viewOf version table places) clock ≡ firstFrom (λ p. rows.vacant connections clock (viewOf version table places .entry p)) next (places - next))
+    × (rows.lowestVacant connections (viewOf version table places) clock ≡
+    firstFrom (λ p. rows.vacant connections clock (viewOf version table places .entry p)) next (places - next))
 
 abbrev μ-loop : tie.MeasureT-loop
 μ-loop version table places clock size at₀ next₀ at next = places - next
@@ -29,14 +29,23 @@ abbrev μ-loop : tie.MeasureT-loop
 entry-size-requires : tie.Need-entry-size-requires Inv-loop μ-loop
 entry-size-requires c κs = search needs
 
+place-at-requires : tie.Need-place-at-requires Inv-loop μ-loop
+place-at-requires c κs = omega (arith, first-place (c .before .before .args .version))
+
 loop-holds : tie.Need-loop-holds Inv-loop μ-loop
-loop-holds c = (search needs, (c .entry-size) .ensures, sym (first-place ((c .before .before) .args .version)), rw sub-zero)
+loop-holds c = (search needs, c .before .entry-size .ensures, c .place-at .ensures, rw sub-zero)
 
 vacant-at-requires : tie.Need-vacant-at-requires Inv-loop μ-loop
-vacant-at-requires c κs = omega (arith, place-inside ((c .before .before .before .before) .args .version) ((c .before .loop) .next) ((c .before .before .before .before) .args .places) (omega arith))
+vacant-at-requires c κs =
+    let l = c .before in
+    let a = l .before .before .before .before .args in
+    omega (arith, place-inside (a .version) (l .loop .next) (a .places) (omega arith))
 
 add-at : tie.Need-add-at Inv-loop μ-loop
-add-at c = omega (arith, place-inside ((c .before .before .before .before .before .before) .args .version) ((c .before .before .before .loop) .next) ((c .before .before .before .before .before .before) .args .places) (omega arith))
+add-at c =
+    let l = c .before .before .before in
+    let a = l .before .before .before .before .args in
+    omega (arith, place-inside (a .version) (l .loop .next) (a .places) (omega arith))
 
 add-next : tie.Need-add-next Inv-loop μ-loop
 add-next c = omega arith
@@ -46,19 +55,24 @@ loop-less c = omega arith
 
 loop-again : tie.Need-loop-again Inv-loop μ-loop
 loop-again c =
-    let a = (c .before .before .before .before .before .before) .args in
-    let l = (c .before .before .before .loop) in
-    let same = ap (λ (k : ℕ). rows.vacant connections (a .clock) (viewed (entryAt (a .version) (a .table .now) k))) (sym ((c .before .before .before .loop) .inv .2)) in
-    (omega arith, l .inv .1, omega (arith, l .inv .1, l .inv .2, next-place ((c .before .before .before .before .before .before) .args .version) ((c .before .before .before .loop) .next)), l .inv .3 ∙ first-is-further _ _ _ (omega arith) (same ∙ sym ((c .before .vacant-at) .ensures) ∙ (c .if2) .left))
+    let l = c .before .before .before in
+    let i = l .loop .inv in
+    let a = l .before .before .before .before .args in
+    let test = rows.vacant connections (a .clock) in
+    let no = tested-at test _ _ _ _ _ (i .2) (c .before .vacant-at .ensures) ∙ c .if2 .left in
+    (omega arith, i .1, omega (arith, i .1, i .2, next-place (a .version) (l .loop .next)), i .3 ∙ first-is-further _ _ _ (omega arith) no)
 
 returns : tie.Need-returns Inv-loop μ-loop
-returns c = sym ((c .before .loop) .inv .3 ∙ first-is-nothing _ _ _ ((c .if1) .taken))
+returns c = sym (c .before .loop .inv .3 ∙ first-is-nothing _ _ _ (c .if1 .taken))
 
 returns-2 : tie.Need-returns-2 Inv-loop μ-loop
 returns-2 c =
-    let a = (c .before .before .before .before .before .before) .args in
-    let same = ap (λ (k : ℕ). rows.vacant connections (a .clock) (viewed (entryAt (a .version) (a .table .now) k))) (sym ((c .before .before .before .loop) .inv .2)) in
-    sym ((c .before .before .before .loop) .inv .3 ∙ first-is-here _ _ _ (omega arith) (same ∙ sym ((c .before .vacant-at) .ensures) ∙ (c .if2) .taken))
+    let l = c .before .before .before in
+    let i = l .loop .inv in
+    let a = l .before .before .before .before .args in
+    let test = rows.vacant connections (a .clock) in
+    let yes = tested-at test _ _ _ _ _ (i .2) (c .before .vacant-at .ensures) ∙ c .if2 .taken in
+    sym (i .3 ∙ first-is-here _ _ _ (omega arith) yes)
 
 pub vacant-spec : {M : Type 1} → statement M
 vacant-spec =
@@ -67,6 +81,7 @@ vacant-spec =
     Inv-loop
     μ-loop
     entry-size-requires
+    place-at-requires
     loop-holds
     vacant-at-requires
     add-at

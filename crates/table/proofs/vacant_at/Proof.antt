@@ -1,12 +1,9 @@
+use Prim.Native.Nat.{ℕ}
+use mathlib.Core.Path.{ap, _∙_}
+use Rattle.choice.specs.Choice.{_≤ᵇ_}
+use Rattle.octets.specs.BigEndian.{bigEndian}
 use Rattle.rows.specs.Rows.{vacant}
 use Rattle.entry.specs.Layout.{entryAt, connectionAt}
-use Rattle.octets.specs.BigEndian.{bigEndian}
-use Rattle.choice.specs.Choice.{_≤ᵇ_}
-use Prim.Native.Nat.{ℕ}
-use Rattle.address.specs.declared.Version.{Version}
-use borrow.Author.Tests.{eq-eqb, ne-eqb, not-true, not-false}
-use native.Mathlib.Omega.{arith}
-use mathlib.Core.Path.{_≡_, refl, sym, ap, subst⁻¹, _∙_}
 use borrow.Author.Needs.{needs}
 use Rattle.table.proofs.vacant_at.Statement.{statement}
 use Rattle.table.proofs.vacant_at.Tie as tie
