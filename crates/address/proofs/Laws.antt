@@ -1,4 +1,4 @@
--- Laws of addresses: all that is asked of a version above this crate.
+-- Laws of addresses of a version, all by its two cases: whoever cites them needs no case.
 use Prim.Native.Nat.{ℕ, _+_, _%_, _≤_}
 use mathlib.Core.Path.{_≡_, refl, _∙_}
 use mathlib.Core.List.{List, _++_}
@@ -18,7 +18,9 @@ use Rattle.address.specs.declared.Address.{Address}
 
 pub length-addressOctets : (v : Version) (a : Address) → length (addressOctets v a) ≡ addressSize v
 length-addressOctets V4 a = length-octetsOf 4 (a .low)
-length-addressOctets V6 a = length-append (octetsOf 8 (a .high)) (octetsOf 8 (a .low)) ∙ rw (length-octetsOf 8 (a .high), length-octetsOf 8 (a .low))
+length-addressOctets V6 a =
+    length-append (octetsOf 8 (a .high)) (octetsOf 8 (a .low))
+    ∙ rw (length-octetsOf 8 (a .high), length-octetsOf 8 (a .low))
 
 -- places with the same octets have the same address
 pub addressAt-agree :
@@ -56,9 +58,12 @@ pub octets-addressAt :
     addressOctets v (addressAt v t at) ≡ take (addressSize v) (drop at t)
 octets-addressAt V4 t at fits octets = octetsOf-bigEndian 4 t at fits octets
 octets-addressAt V6 t at fits octets =
-    part-append t 8 8 at (at + 8) _ _ refl (octetsOf-bigEndian 8 t at (omega arith) octets) (octetsOf-bigEndian 8 t (at + 8) (omega arith) octets)
+    let high = octetsOf-bigEndian 8 t at (omega arith) octets in
+    let low = octetsOf-bigEndian 8 t (at + 8) (omega arith) octets in
+    part-append t 8 8 at (at + 8) _ _ refl high low
 
-pub fits-addressAt : (v : Version) (t : List ℕ) (at : ℕ) → Octets t → IsAddress v (addressAt v t at)
+-- an address that is read from octets is one of its version
+fits-addressAt : (v : Version) (t : List ℕ) (at : ℕ) → Octets t → IsAddress v (addressAt v t at)
 fits-addressAt V4 t at octets = (refl, bigEndian<256^n 4 t at octets)
 fits-addressAt V6 t at octets = (bigEndian<256^n 8 t at octets, bigEndian<256^n 8 t (at + 8) octets)
 

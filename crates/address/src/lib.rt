@@ -98,8 +98,9 @@ pub fn read_flow(version: Version, s: &[u8], addresses: usize, ports: usize) -> 
     requires { ⌜ (addresses + addressSize version + addressSize version ≤ length (now s)) × (ports + 4 ≤ length (now s)) ⌝ }
     ensures { λ r. ⌜ r ≡ flowAt version (now (s .entry)) addresses ports ⌝ }
 {
+    let next = addresses + address_size(version);
     let from = read_endpoint(version, s, addresses, ports);
-    let to = read_endpoint(version, s, addresses + address_size(version), ports + 2);
+    let to = read_endpoint(version, s, next, ports + 2);
     Flow { from: from, to: to }
 }
 
@@ -123,10 +124,11 @@ pub fn flow_is(version: Version, s: &[u8], addresses: usize, ports: usize, flow:
     let to = flow.to;
     let first = from.address;
     let second = to.address;
+    let next = addresses + address_size(version);
     if !address_is(version, s, addresses, first) {
         return false;
     }
-    if !address_is(version, s, addresses + address_size(version), second) {
+    if !address_is(version, s, next, second) {
         return false;
     }
     if from.port != read16(s, ports) {

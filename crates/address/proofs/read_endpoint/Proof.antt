@@ -9,7 +9,10 @@ read16-requires : tie.Need-read16-requires
 read16-requires c κs = search needs
 
 returns : tie.Need-returns
-returns c = let a = (c .before .read-address) .ensures in let p = (c .read16) .ensures in λ i. record { address = a i; port = p i }
+returns c =
+    let address = c .before .read-address .ensures in
+    let port = c .read16 .ensures in
+    λ i. record { address = address i; port = port i }
 
 pub read-endpoint-spec : {M : Type 1} → statement M
 read-endpoint-spec = tie.close (tie.spec read-address-requires read16-requires returns)
