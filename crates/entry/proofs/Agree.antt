@@ -1,6 +1,6 @@
 -- Places with the same bytes have the same entry and the same zero bytes.
 use Prim.Native.Nat.{ℕ, _+_, _≤_, _<_}
-use mathlib.Core.Path.{_≡_, refl, sym, ap, _∙_}
+use mathlib.Core.Path.{_≡_, sym, ap, _∙_}
 use mathlib.Core.List.{List, [], _∷_}
 use native.Mathlib.Omega.{arith}
 use native.Mathlib.Nat.{add-zero}
@@ -12,7 +12,7 @@ use Rattle.address.specs.Address.{addressSize, addressAt, endpointAt}
 use Rattle.address.specs.declared.Version.{Version}
 use Rattle.address.proofs.Laws.{addressAt-agree}
 use Rattle.connection.specs.Ends.{count, seqNum}
-use Rattle.entry.specs.Layout.{restSize, blankAt, portsAt, numbersAt, restAt, entrySize, endAt, connectionAt, entryAt}
+use Rattle.entry.specs.Layout.{restSize, blankAt, addressesAt, portsAt, numbersAt, restAt, entrySize, endAt, connectionAt, entryAt}
 
 -- zero bytes zero: the one after the FIN bits, and the last 16 or 24
 pub record ZeroBytes (v : Version) (t : List ℕ) (at : ℕ) : Type 0 where
@@ -45,24 +45,33 @@ module _ (v : Version) (l : List ℕ) (at : ℕ) (m : List ℕ) (there : ℕ) (s
       let stage : getD l at 0 ≡ getD m there 0 = simp add-zero at (same 0 (omega arith)) in
       let side = same 1 (omega arith) in
       let fins = same 2 (omega arith) in
-      let deadline = number-agree 8 (numbersAt v 0) (numbersAt v at) (numbersAt v there) (omega arith) (omega arith) (omega arith) in
-      let opener = end-agree (numbersAt v 8) (numbersAt v at + 8) (numbersAt v there + 8) (omega arith) (omega arith) (omega arith) in
-      let answerer = end-agree (numbersAt v 20) (numbersAt v at + 20) (numbersAt v there + 20) (omega arith) (omega arith) (omega arith) in
+      let n = numbersAt v 0 in
+      let p = numbersAt v at in
+      let q = numbersAt v there in
+      let deadline = number-agree 8 n p q (omega arith) (omega arith) (omega arith) in
+      let opener = end-agree (n + 8) (p + 8) (q + 8) (omega arith) (omega arith) (omega arith) in
+      let answerer = end-agree (n + 20) (p + 20) (q + 20) (omega arith) (omega arith) (omega arith) in
       λ i. record { stage = stage i; side = side i; fins = fins i; deadline = deadline i; ends = opener i ∷ answerer i ∷ [] }
 
   endpoint-agree :
-      (k j p q p' q' : ℕ) → at + k ≡ p → there + k ≡ q → k + addressSize v ≤ entrySize v → at + j ≡ p' → there + j ≡ q' → j + 2 ≤ entrySize v →
+      (k p q : ℕ) → at + k ≡ p → there + k ≡ q → k + addressSize v ≤ entrySize v →
+      (j p' q' : ℕ) → at + j ≡ p' → there + j ≡ q' → j + 2 ≤ entrySize v →
       endpointAt v l p p' ≡ endpointAt v m q q'
-  endpoint-agree k j p q p' q' a b c d e f =
-      let address = address-agree k p q a b c in
-      let port = number-agree 2 j p' q' d e f in
+  endpoint-agree k p q here there' inside j p' q' here' there'' inside' =
+      let address = address-agree k p q here there' inside in
+      let port = number-agree 2 j p' q' here' there'' inside' in
       λ i. record { address = address i; port = port i }
 
   pub entryAt-agree : entryAt v l at ≡ entryAt v m there
   unfolding entryAt
   entryAt-agree =
-      let from = endpoint-agree 4 (portsAt v 0) (at + 4) (there + 4) (portsAt v at) (portsAt v there) refl refl (omega arith) (omega arith) (omega arith) (omega arith) in
-      let to = endpoint-agree (4 + addressSize v) (portsAt v 2) (at + 4 + addressSize v) (there + 4 + addressSize v) (portsAt v at + 2) (portsAt v there + 2) (omega arith) (omega arith) (omega arith) (omega arith) (omega arith) (omega arith) in
+      let from =
+          endpoint-agree (addressesAt 0) (addressesAt at) (addressesAt there) (omega arith) (omega arith) (omega arith)
+          (portsAt v 0) (portsAt v at) (portsAt v there) (omega arith) (omega arith) (omega arith) in
+      let size = addressSize v in
+      let to =
+          endpoint-agree (addressesAt 0 + size) (addressesAt at + size) (addressesAt there + size) (omega arith) (omega arith) (omega arith)
+          (portsAt v 0 + 2) (portsAt v at + 2) (portsAt v there + 2) (omega arith) (omega arith) (omega arith) in
       λ i. record { key = record { from = from i; to = to i }; connection = connection-agree i }
 
   pub zeroBytes-agree : ZeroBytes v m there → ZeroBytes v l at

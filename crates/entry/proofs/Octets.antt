@@ -17,7 +17,7 @@ use Rattle.address.proofs.Laws.{fits-flowAt, bytes-addressOctets}
 use Rattle.connection.specs.Ends.{sender}
 use Rattle.connection.specs.declared.Connection.{Connection}
 use Rattle.connection.specs.declared.End.{End}
-use Rattle.entry.specs.Layout.{restSize, portsAt, numbersAt, endAt, connectionAt, entryAt, endBytes, marksBytes, flowBytes, numbersBytes, entryBytes}
+use Rattle.entry.specs.Layout.{restSize, addressesAt, portsAt, numbersAt, restAt, endAt, connectionAt, entryAt, endBytes, marksBytes, flowBytes, numbersBytes, entryBytes}
 use Rattle.entry.specs.Typed.{TypedEnd, Typed}
 use Rattle.entry.specs.declared.Entry.{Entry}
 use Rattle.entry.proofs.Agree.{ZeroBytes}
@@ -37,7 +37,7 @@ typed-entryAt v t at octets = record {
   stage = octets at;
   side = octets (at + 1);
   fins = octets (at + 2);
-  key = fits-flowAt v t (at + 4) (portsAt v at) octets;
+  key = fits-flowAt v t (addressesAt at) (portsAt v at) octets;
   deadline = bigEndian<256^n 8 t (numbersAt v at) octets;
   two-ends = refl;
   opener = typed-endAt t (numbersAt v at + 8) octets;
@@ -78,6 +78,6 @@ octets-entryBytes v e typed = bytes-entryBytes v e typed .small
 pub zeroBytes-entryBytes : (v : Version) (e : Entry) → ZeroBytes v (entryBytes v e) 0
 unfolding entryBytes marksBytes flowBytes numbersBytes endBytes octetsOf digits
 zeroBytes-entryBytes V4 e =
-    record { after-fins = refl; last = λ i h. sym (getD-drop 48 (entryBytes V4 e) i 0) ∙ getD-replicate 16 i 0 0 h }
+    record { after-fins = refl; last = λ i h. sym (getD-drop (restAt V4 0) (entryBytes V4 e) i 0) ∙ getD-replicate (restSize V4) i 0 0 h }
 zeroBytes-entryBytes V6 e =
-    record { after-fins = refl; last = λ i h. sym (getD-drop 72 (entryBytes V6 e) i 0) ∙ getD-replicate 24 i 0 0 h }
+    record { after-fins = refl; last = λ i h. sym (getD-drop (restAt V6 0) (entryBytes V6 e) i 0) ∙ getD-replicate (restSize V6) i 0 0 h }

@@ -40,10 +40,14 @@ same-length c = search needs
 returns : tie.Need-returns
 unfolding flowBytes
 returns c =
-    let a = c .before .before .before .before .before .before .before .before .before .before .before .before .before .before .before .before .before .before .before .before .before .before .before .args in
-    let ports = overwrite-both _ _ _ _ ((c .before .before .before .before .before .before .write16) .ensures) ((c .before .before .write162) .ensures) (length-octetsOf 2 _) (omega arith) (omega arith) in
-    let tail = overwrite-both _ _ _ _ ((c .before .before .before .before .before .before .before .before .before .before .write-address2) .ensures) ports (length-addressOctets (a .version) (a .flow .to .address)) (omega arith) (omega arith) in
-    overwrite-both _ _ _ _ ((c .before .before .before .before .before .before .before .before .before .before .before .before .before .before .write-address) .ensures) tail (length-addressOctets (a .version) (a .flow .from .address)) (omega arith) (omega arith)
+    let v = (let k = c .before .before .before .before .before .before .before .before .before .before .before .before in k .before .before .before .before .before .before .before .before .before .before .before .args .version) in
+    let first = c .before .before .before .before .before .before .before .before .before .before .before .before .before .before .write-address .ensures in
+    let second = c .before .before .before .before .before .before .before .before .before .before .write-address2 .ensures in
+    let third = c .before .before .before .before .before .before .write16 .ensures in
+    let fourth = c .before .before .write162 .ensures in
+    let ports = overwrite-both _ _ _ _ third fourth (length-octetsOf 2 _) (omega arith) (omega arith) in
+    let tail = overwrite-both _ _ _ _ second ports (length-addressOctets v _) (omega arith) (omega arith) in
+    overwrite-both _ _ _ _ first tail (length-addressOctets v _) (omega arith) (omega arith)
 
 pub store-flow-spec : {M : Type 1} → statement M
 store-flow-spec =

@@ -10,7 +10,7 @@ key-is-requires : tie.Need-key-is-requires
 key-is-requires c κs = search needs
 
 returns : tie.Need-returns
-returns c = sym (opener-not-by-key _ _ _ (sym ((c .before .key-is) .ensures) ∙ not-true _ ((c .if1) .taken)))
+returns c = sym (opener-not-by-key _ _ _ (sym (c .before .key-is .ensures) ∙ not-true _ (c .if1 .taken)))
 
 add-result : tie.Need-add-result
 add-result c = search needs
@@ -20,7 +20,7 @@ shared-slice-read-result c = search needs
 
 returns-2 : tie.Need-returns-2
 unfolding entryAt connectionAt
-returns-2 c = sym (opener-by-side _ _ _ (sym ((c .before .before .key-is) .ensures) ∙ not-false _ ((c .before .if1) .left)))
+returns-2 c = sym (opener-by-side _ _ _ (sym (c .before .before .key-is .ensures) ∙ not-false _ (c .before .if1 .left)))
 
 pub from-opener-at-spec : {M : Type 1} → statement M
 from-opener-at-spec =

@@ -16,7 +16,10 @@ read64-requires c κs = search needs
 
 returns : tie.Need-returns
 unfolding vacant entryAt connectionAt
-returns c = let a = (c .before .before .before) .args in ap (λ (d : ℕ). d ≤ᵇ a .clock) ((c .read64) .ensures ∙ ap (bigEndian 8 (a .table .now)) ((c .before .numbers-at) .ensures))
+returns c =
+    let n = c .before in
+    let a = n .before .before .args in
+    ap (λ (d : ℕ). d ≤ᵇ a .clock) (c .read64 .ensures ∙ ap (bigEndian 8 (a .table .now)) (n .numbers-at .ensures))
 
 pub vacant-at-spec : {M : Type 1} → statement M
 vacant-at-spec = tie.close (tie.spec numbers-at-requires read64-requires returns)
