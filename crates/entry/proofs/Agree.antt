@@ -66,12 +66,12 @@ module _ (v : Version) (l : List ℕ) (at : ℕ) (m : List ℕ) (there : ℕ) (s
   unfolding entryAt
   entryAt-agree =
       let from =
-          endpoint-agree (addressesAt 0) (addressesAt at) (addressesAt there) (omega arith) (omega arith) (omega arith)
-          (portsAt v 0) (portsAt v at) (portsAt v there) (omega arith) (omega arith) (omega arith) in
+      endpoint-agree (addressesAt 0) (addressesAt at) (addressesAt there) (omega arith) (omega arith) (omega arith)
+      (portsAt v 0) (portsAt v at) (portsAt v there) (omega arith) (omega arith) (omega arith) in
       let size = addressSize v in
       let to =
-          endpoint-agree (addressesAt 0 + size) (addressesAt at + size) (addressesAt there + size) (omega arith) (omega arith) (omega arith)
-          (portsAt v 0 + 2) (portsAt v at + 2) (portsAt v there + 2) (omega arith) (omega arith) (omega arith) in
+      endpoint-agree (addressesAt 0 + size) (addressesAt at + size) (addressesAt there + size) (omega arith) (omega arith) (omega arith)
+      (portsAt v 0 + 2) (portsAt v at + 2) (portsAt v there + 2) (omega arith) (omega arith) (omega arith) in
       λ i. record { key = record { from = from i; to = to i }; connection = connection-agree i }
 
   pub zeroBytes-agree : ZeroBytes v m there → ZeroBytes v l at

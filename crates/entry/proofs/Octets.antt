@@ -17,7 +17,8 @@ use Rattle.address.proofs.Laws.{fits-flowAt, bytes-addressOctets}
 use Rattle.connection.specs.Ends.{sender}
 use Rattle.connection.specs.declared.Connection.{Connection}
 use Rattle.connection.specs.declared.End.{End}
-use Rattle.entry.specs.Layout.{restSize, addressesAt, portsAt, numbersAt, restAt, endAt, connectionAt, entryAt, endBytes, marksBytes, flowBytes, numbersBytes, entryBytes}
+use Rattle.entry.specs.Layout.{restSize, addressesAt, portsAt, numbersAt, restAt, endAt, connectionAt, entryAt}
+use Rattle.entry.specs.Layout.{endBytes, marksBytes, flowBytes, numbersBytes, entryBytes}
 use Rattle.entry.specs.Typed.{TypedEnd, Typed}
 use Rattle.entry.specs.declared.Entry.{Entry}
 use Rattle.entry.proofs.Agree.{ZeroBytes}

@@ -19,7 +19,8 @@ use Rattle.address.specs.declared.Endpoint.{Endpoint}
 use Rattle.address.proofs.Laws.{addressAt-octets, octets-addressAt}
 use Rattle.connection.specs.Ends.{sender, seqNum, count}
 use Rattle.connection.specs.declared.End.{End}
-use Rattle.entry.specs.Layout.{restSize, blankAt, addressesAt, portsAt, numbersAt, restAt, entrySize, endAt, connectionAt, entryAt, endBytes, marksBytes, flowBytes, numbersBytes, entryBytes}
+use Rattle.entry.specs.Layout.{restSize, blankAt, addressesAt, portsAt, numbersAt, restAt, entrySize, endAt, connectionAt, entryAt}
+use Rattle.entry.specs.Layout.{endBytes, marksBytes, flowBytes, numbersBytes, entryBytes}
 use Rattle.entry.specs.RoundTrip.{StoredIsRead}
 use Rattle.entry.specs.Typed.{TypedEnd, Typed}
 use Rattle.entry.specs.declared.Entry.{Entry}
@@ -39,7 +40,11 @@ abbrev numberAgain : ℕ → ℕ → ℕ
 numberAgain n x = bigEndian n (octetsOf n x) 0
 
 abbrev endAgain : End → End
-endAgain x = record { end = seqNum (numberAgain 4 (x .end .0)); edge = seqNum (numberAgain 4 (x .edge .0)); win = count (numberAgain 4 (x .win .0)) }
+endAgain x = record {
+  end = seqNum (numberAgain 4 (x .end .0));
+  edge = seqNum (numberAgain 4 (x .edge .0));
+  win = count (numberAgain 4 (x .win .0));
+}
 
 abbrev endpointAgain : Version → Endpoint → Endpoint
 endpointAgain v x = record { address = addressAt v (addressOctets v (x .address)) 0; port = numberAgain 2 (x .port) }
@@ -86,7 +91,7 @@ entry-back v e typed =
     let opener = end-back (sender (c .ends) 0) (typed .opener) in
     let answerer = end-back (sender (c .ends) 1) (typed .answerer) in
     let ends : endAgain (sender (c .ends) 0) ∷ endAgain (sender (c .ends) 1) ∷ [] ≡ c .ends =
-        (λ i. opener i ∷ answerer i ∷ []) ∙ two-elements (c .ends) (typed .two-ends) in
+    (λ i. opener i ∷ answerer i ∷ []) ∙ two-elements (c .ends) (typed .two-ends) in
     λ i. record {
       key = record { from = from i; to = to i };
       connection = record { stage = c .stage; side = c .side; fins = c .fins; deadline = deadline i; ends = ends i };

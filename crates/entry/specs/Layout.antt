@@ -15,12 +15,7 @@ use Rattle.entry.specs.declared.Entry.{Entry}
 abbrev pub headerSize : ℕ
 headerSize = 64
 
--- zeros that end an entry
-abbrev pub restSize : Version → ℕ
-restSize V4 = 16
-restSize V6 = 24
-
--- where the zero byte of the entry at an offset stands, and where its addresses begin, its ports, its numbers, and the zeros that end it
+-- the parts of the entry at an offset: its zero byte, then where its addresses begin, its ports, its numbers, and the zeros that end it
 abbrev pub blankAt : ℕ → ℕ
 blankAt at = at + 3
 
@@ -36,6 +31,11 @@ numbersAt v at = portsAt v at + 4
 abbrev pub restAt : Version → ℕ → ℕ
 restAt v at = numbersAt v at + 32
 
+-- zeros that end an entry
+abbrev pub restSize : Version → ℕ
+restSize V4 = 16
+restSize V6 = 24
+
 -- 64 or 96
 abbrev pub entrySize : Version → ℕ
 entrySize v = restAt v 0 + restSize v
@@ -44,12 +44,7 @@ entrySize v = restAt v 0 + restSize v
 unfoldable pub placeAt : Version → ℕ → ℕ
 placeAt v p = headerSize + entrySize v * p
 
--- end (4), edge (4), win (4)
-unfoldable pub endBytes : End → List ℕ
-endBytes e = octetsOf 4 (e .end .0) ++ (octetsOf 4 (e .edge .0) ++ octetsOf 4 (e .win .0))
-
-abbrev pub endAt : List ℕ → ℕ → End
-endAt t at = record { end = seqNum (bigEndian 4 t at); edge = seqNum (bigEndian 4 t (at + 4)); win = count (bigEndian 4 t (at + 8)) }
+-- An entry's bytes
 
 -- stage (1), opener's side (1), FIN bits (1), zero (1)
 unfoldable pub marksBytes : Connection → List ℕ
@@ -61,15 +56,24 @@ flowBytes v k =
     addressOctets v (k .from .address)
     ++ (addressOctets v (k .to .address) ++ (octetsOf 2 (k .from .port) ++ octetsOf 2 (k .to .port)))
 
+-- end (4), edge (4), win (4)
+unfoldable pub endBytes : End → List ℕ
+endBytes e = octetsOf 4 (e .end .0) ++ (octetsOf 4 (e .edge .0) ++ octetsOf 4 (e .win .0))
+
 -- deadline (8), then for opener and then answerer: end, edge, win
 unfoldable pub numbersBytes : Connection → List ℕ
 numbersBytes c = octetsOf 8 (c .deadline) ++ (endBytes (sender (c .ends) 0) ++ endBytes (sender (c .ends) 1))
 
--- these three, then 16 or 24 zeros
+-- marks, addresses and ports, numbers, then 16 or 24 zeros
 unfoldable pub entryBytes : Version → Entry → List ℕ
 entryBytes v e =
     marksBytes (e .connection)
     ++ (flowBytes v (e .key) ++ (numbersBytes (e .connection) ++ replicate (restSize v) 0))
+
+-- What they are read as
+
+abbrev pub endAt : List ℕ → ℕ → End
+endAt t at = record { end = seqNum (bigEndian 4 t at); edge = seqNum (bigEndian 4 t (at + 4)); win = count (bigEndian 4 t (at + 8)) }
 
 -- stage, opener's side, FIN bits; where the numbers begin: deadline, then the opener's record and the answerer's
 unfoldable pub connectionAt : List ℕ → ℕ → ℕ → Connection

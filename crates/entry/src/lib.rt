@@ -5,7 +5,8 @@ ghost use Prim.Native.Nat.{_+_, _^_, _≤_, _<_};
 ghost use lib.ListN.{length, replicate};
 ghost use Rattle.octets.specs.Overwrite.{overwrite};
 ghost use Rattle.address.specs.Address.{addressSize};
-ghost use Rattle.entry.specs.Layout.{placeAt, entrySize, restSize, addressesAt, portsAt, numbersAt, restAt, entryAt, connectionAt, endAt, entryBytes, marksBytes, flowBytes, numbersBytes, endBytes};
+ghost use Rattle.entry.specs.Layout.{addressesAt, portsAt, numbersAt, restAt, restSize, entrySize, placeAt};
+ghost use Rattle.entry.specs.Layout.{marksBytes, flowBytes, endBytes, numbersBytes, entryBytes, endAt, connectionAt, entryAt};
 use address::Flow;
 use address::Version;
 use address::address_size;
@@ -65,8 +66,7 @@ pub fn place_at(version: Version, place: usize) -> usize
     HEADER_SIZE + entry_size(version) * place
 }
 
-// Where the parts of the entry at an offset begin: addresses, ports, numbers, and the zeros that end it.
-
+// Where the addresses of the entry at an offset begin.
 pub fn addresses_at(at: usize) -> usize
     requires { ⌜ addressesAt at < 2 ^ 64 ⌝ }
     ensures { λ r. ⌜ r ≡ addressesAt at ⌝ }
@@ -74,6 +74,7 @@ pub fn addresses_at(at: usize) -> usize
     at + 4
 }
 
+// Its ports, after both addresses.
 pub fn ports_at(version: Version, at: usize) -> usize
     requires { ⌜ portsAt version at < 2 ^ 64 ⌝ }
     ensures { λ r. ⌜ r ≡ portsAt version at ⌝ }
@@ -81,6 +82,7 @@ pub fn ports_at(version: Version, at: usize) -> usize
     addresses_at(at) + address_size(version) + address_size(version)
 }
 
+// Its deadline and its two records, after both ports.
 pub fn numbers_at(version: Version, at: usize) -> usize
     requires { ⌜ numbersAt version at < 2 ^ 64 ⌝ }
     ensures { λ r. ⌜ r ≡ numbersAt version at ⌝ }
@@ -88,6 +90,7 @@ pub fn numbers_at(version: Version, at: usize) -> usize
     ports_at(version, at) + 4
 }
 
+// The zeros that end it.
 pub fn rest_at(version: Version, at: usize) -> usize
     requires { ⌜ restAt version at < 2 ^ 64 ⌝ }
     ensures { λ r. ⌜ r ≡ restAt version at ⌝ }

@@ -29,7 +29,7 @@ TestsZeros t at n r = (r ≡ 0 → zerosAt t at n ≡ true) × (zerosAt t at n �
 
 -- Sound
 
--- header: clock (8), zeros (54), the version's mark (1), zero (1)
+-- header: clock (8), zeros (54), the version's mark (byte 62), zero (byte 63)
 abbrev pub clockAt : ℕ
 clockAt = 0
 

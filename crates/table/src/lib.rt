@@ -5,12 +5,12 @@ ghost use Prim.Native.Nat.{_+_, _-_, _*_, _^_, _≤_, _<_};
 ghost use lib.ListN.{length};
 ghost use Rattle.octets.specs.BigEndian.{octetsOf};
 ghost use Rattle.octets.specs.Overwrite.{overwrite};
-ghost use Rattle.connection.specs.Sound.{soundEnd, soundUnanswered};
 ghost use Rattle.address.specs.Flows.{sameFlow, reversed};
-ghost use Rattle.entry.specs.Layout.{headerSize, restSize, entrySize, placeAt, entryAt};
-ghost use Rattle.entry.specs.Viewed.{viewed};
+ghost use Rattle.connection.specs.Sound.{soundEnd, soundUnanswered};
 ghost use Rattle.rows.specs.Rows.{fromOpener, fromAnswerer, liveMatch, vacant, search, lowestVacant};
 ghost use Rattle.rows.specs.Connections.{connections};
+ghost use Rattle.entry.specs.Layout.{headerSize, restSize, entrySize, placeAt, entryAt};
+ghost use Rattle.entry.specs.Viewed.{viewed};
 ghost use Rattle.table.specs.Table.{TestsZeros, clockAt, headerClock, headerMark, soundHeader, soundTable, viewOf};
 ghost use Rattle.table.specs.Words.{soundWord, soundNumbers, soundEntry};
 use address::Flow;
@@ -61,7 +61,7 @@ fn any8(table: &[u8], at: usize) -> u64
     little32(table, at) as u64 + little32(table, at + 4) as u64 * 4294967296
 }
 
-// The same of 16 octets: 0 exactly where each of them is.
+// The same of more octets: a number for each half, then one of both.
 fn any16(table: &[u8], at: usize) -> u64
     requires { ⌜ at + 16 ≤ length (now table) ⌝ }
     ensures { λ r. ⌜ TestsZeros (now (table .entry)) at 16 r ⌝ }

@@ -1,3 +1,4 @@
+-- Places are named within parentheses only: omega enters every record that has a name, and no more than 128.
 use native.Mathlib.Omega.{arith}
 use Rattle.octets.proofs.BigEndian.{length-octetsOf}
 use Rattle.octets.proofs.Overwrite.{overwrite-both}
@@ -40,8 +41,11 @@ same-length c = search needs
 returns : tie.Need-returns
 unfolding flowBytes
 returns c =
-    let v = (let k = c .before .before .before .before .before .before .before .before .before .before .before .before in k .before .before .before .before .before .before .before .before .before .before .before .args .version) in
-    let first = c .before .before .before .before .before .before .before .before .before .before .before .before .before .before .write-address .ensures in
+    let v = (
+    let k = c .before .before .before .before .before .before .before .before .before .before .before .before in
+    k .before .before .before .before .before .before .before .before .before .before .before .args .version
+    ) in
+    let first = (let k = c .before .before .before .before .before .before .before in k .before .before .before .before .before .before .before .write-address .ensures) in
     let second = c .before .before .before .before .before .before .before .before .before .before .write-address2 .ensures in
     let third = c .before .before .before .before .before .before .write16 .ensures in
     let fourth = c .before .before .write162 .ensures in

@@ -15,19 +15,17 @@ from-opener-at-requires c κs = search needs
 
 returns-2 : tie.Need-returns-2
 returns-2 c =
-    let live = c .before .before in
-    let yes = sym (c .before .from-opener-at .ensures) ∙ c .if2 .taken in
-    sym (live-by-match _ _ _ _ (sym (live .before .vacant-at .ensures) ∙ live .if1 .left) ∙ rw yes)
+    sym (live-by-match _ _ _ _ (sym (c .before .before .before .vacant-at .ensures) ∙ c .before .before .if1 .left)
+    ∙ rw (sym (c .before .from-opener-at .ensures) ∙ c .if2 .taken))
 
 from-answerer-at-requires : tie.Need-from-answerer-at-requires
 from-answerer-at-requires c κs = search needs
 
 returns-3 : tie.Need-returns-3
 returns-3 c =
-    let k = c .before in
-    let live = k .before .before in
-    let no = sym (k .before .from-opener-at .ensures) ∙ k .if2 .left in
-    c .from-answerer-at .ensures ∙ sym (live-by-match _ _ _ _ (sym (live .before .vacant-at .ensures) ∙ live .if1 .left) ∙ rw no)
+    c .from-answerer-at .ensures
+    ∙ sym (live-by-match _ _ _ _ (sym (c .before .before .before .before .vacant-at .ensures) ∙ c .before .before .before .if1 .left)
+    ∙ rw (sym (c .before .before .from-opener-at .ensures) ∙ c .before .if2 .left))
 
 pub live-match-at-spec : {M : Type 1} → statement M
 live-match-at-spec =
