@@ -12,7 +12,7 @@ use Rattle.packet.specs.Reader.{ReaderOf}
 use Rattle.packet.specs.declared.PacketRead.{PacketRead}
 use Rattle.rows.specs.Rows.{nowhere}
 use Rattle.entry.specs.Layout.{entrySize, placeAt}
-use Rattle.table.specs.Table.{headerMark}
+use Rattle.table.specs.Table.{markAt, headerMark}
 use Rattle.filter.specs.Call.{Outcome, placesIn, outcomeOf, replyOf, tableAfter}
 use Rattle.honest.specs.Rules.{Event, Pair}
 use Rattle.honest.specs.Honest.{Legal, NeverBlocked, Demand3}
@@ -38,7 +38,7 @@ module _ (v : Version) where
 
   -- a fresh table with n places: zeros but for the version's mark, which is 0 in an IPv4 table
   abbrev pub freshBytes : ℕ → List ℕ
-  freshBytes n = overwrite (replicate (placeAt v n) 0) 62 (headerMark v ∷ [])
+  freshBytes n = overwrite (replicate (placeAt v n) 0) markAt (headerMark v ∷ [])
 
   module _ (read : List ℕ → PacketRead) where
     -- Demand 1: any bytes, side, clock and table get one of the numbered answers, and only a pass changes the table. Nothing is asked of them

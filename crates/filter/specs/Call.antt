@@ -19,7 +19,7 @@ use Rattle.rows.specs.Connections.{connections}
 use Rattle.entry.specs.Layout.{placeAt, entryBytes}
 use Rattle.entry.specs.Viewed.{stored}
 use Rattle.entry.specs.declared.Entry.{Entry}
-use Rattle.table.specs.Table.{soundTable, viewOf}
+use Rattle.table.specs.Table.{clockAt, soundTable, viewOf}
 use Rattle.filter.specs.Length.{legalLength, placesFor}
 use Rattle.filter.specs.declared.Reply.{Reply}
 
@@ -80,7 +80,7 @@ replyOf o = record { answer = answerOf connections o; place = placeBy (λ p. p) 
 
 -- the table with another header clock and another entry at a place
 abbrev pub withEntry : Version → List ℕ → ℕ → ℕ → Entry → List ℕ
-withEntry v t p now e = overwrite (overwrite t 0 (octetsOf 8 now)) (placeAt v p) (entryBytes v e)
+withEntry v t p now e = overwrite (overwrite t clockAt (octetsOf 8 now)) (placeAt v p) (entryBytes v e)
 
 -- a pass changes only the header clock and that entry; every other answer changes no byte
 abbrev pub tableAfter : Version → List ℕ → Outcome → List ℕ
