@@ -26,8 +26,8 @@ module _ (v : Version) (read : List ℕ → PacketRead) (reader : ReaderOf v rea
       let sound = fresh-bytes-sound v n some most in
       let view = fresh-bytes-view v n in
       let follows = demand2-of M (SoundBytes v) keeps (freshBytes v n) sound n view l in
-      let encoded = sound-bytes v _ (stays-sound M (SoundBytes v) keeps (freshBytes v n) sound n view l) in
-      (encoded ∙ ap (tableBytes v) (follows .table), follows)
+      let after = stays-sound M (SoundBytes v) keeps (freshBytes v n) sound n view l in
+      (sound-bytes v _ after ∙ ap (tableBytes v) (follows .table), follows, after)
 
   demand3-from-sound : Demand3FromSound v read
   demand3-from-sound = demand3 (bytesMachine v read) (SoundBytes v) (bytes-keep v read reader)

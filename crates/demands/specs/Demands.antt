@@ -45,14 +45,15 @@ module _ (v : Version) where
     abbrev pub Demand1OnBytes : Type 0
     Demand1OnBytes = (side clock : ℕ) (t packet : List ℕ) → Demand1For t (outcomeOf v side clock t (read packet))
 
-    -- Demand 2: after every list of calls from a fresh table, the table's bytes are those of the histories' numbers modulo 2^32, and each
-    -- answer and each place of the next call is what the histories on the unwrapped line give
+    -- Demand 2: after every list of calls from a fresh table, the table's bytes are those of the histories' numbers modulo 2^32, each
+    -- answer and each place of the next call is what the histories on the unwrapped line give, and the table is sound
     abbrev pub Demand2OnBytes : Type 0
     Demand2OnBytes =
         (n : ℕ) → 1 ≤ n → n ≤ 512 → (l : List BytesCall) →
         let M = bytesMachine v read in
         (stateAfter M (freshBytes n) l ≡ tableBytes v (inNumbers (historiesAfter histories n (asked M l))))
         × MachineFollows M (freshBytes n) n l
+        × SoundBytes v (stateAfter M (freshBytes n) l)
 
     -- Demand 3: two honest ends are never blocked, from a fresh table; and from every sound one
     abbrev pub Demand3OnBytes : Type 0

@@ -21,7 +21,7 @@ use Rattle.connection.specs.Ends.{sender, seqNum, count}
 use Rattle.connection.specs.declared.End.{End}
 use Rattle.entry.specs.Layout.{restSize, blankAt, addressesAt, portsAt, numbersAt, restAt, entrySize, endAt, connectionAt, entryAt}
 use Rattle.entry.specs.Layout.{endBytes, marksBytes, flowBytes, numbersBytes, entryBytes}
-use Rattle.entry.specs.RoundTrip.{StoredIsRead}
+use Rattle.entry.specs.RoundTrip.{StoredIsRead, FreeIsZeros}
 use Rattle.entry.specs.Typed.{TypedEnd, Typed}
 use Rattle.entry.specs.declared.Entry.{Entry}
 use Rattle.entry.proofs.Sizes.{length-entryBytes}
@@ -172,3 +172,10 @@ module _ (v : Version) (t : List ℕ) (at : ℕ) (fits : at + entrySize v ≤ le
       let tail = part-append t flow end (addressesAt at) (numbersAt v at) _ _ (omega arith) flow-part rest in
       part-append t 4 (flow + end) at (addressesAt at) _ _ refl (marks-part (none .after-fins)) tail
       ∙ ap (λ (n : ℕ). take n (drop at t)) size
+
+-- The free entry
+
+pub free-is-zeros : FreeIsZeros
+unfolding entryBytes marksBytes flowBytes numbersBytes endBytes octetsOf digits
+free-is-zeros V4 = refl
+free-is-zeros V6 = refl

@@ -33,12 +33,12 @@ module _ (number : ℕ → ℕ) where
   }
 
   -- two honest ends are never blocked by the filter
-  pub demand3-list : Demand3 (viewMachine number) SoundTypedView
-  demand3-list = demand3 (viewMachine number) SoundTypedView viewMachine-keeps
+  pub demand3-view : Demand3 (viewMachine number) SoundTypedView
+  demand3-view = demand3 (viewMachine number) SoundTypedView viewMachine-keeps
 
   -- and its answers, places and tables are the histories'
-  pub demand2-list : Demand2Of (viewMachine number) SoundTypedView
-  demand2-list = demand2-of (viewMachine number) SoundTypedView viewMachine-keeps
+  pub demand2-view : Demand2Of (viewMachine number) SoundTypedView
+  demand2-view = demand2-of (viewMachine number) SoundTypedView viewMachine-keeps
 
   pub fresh-sound : (n : ℕ) → SoundTypedView (fresh connections n)
   fresh-sound n = ((λ p inside. inl refl), (λ p inside. free-typed))
@@ -47,4 +47,4 @@ module _ (number : ℕ → ℕ) where
   pub demand3-fresh :
       (n : ℕ) (P : Pair) → P .side ≤ 1 → (L : List (Event ViewCall)) →
       Legal (viewMachine number) (fresh connections n) P L → NeverBlocked (viewMachine number) (fresh connections n) L
-  demand3-fresh n = demand3-list (fresh connections n) (fresh-sound n)
+  demand3-fresh n = demand3-view (fresh connections n) (fresh-sound n)

@@ -21,7 +21,7 @@ use Rattle.honest.specs.Instance.{viewMachine}
 use Rattle.honest.specs.Carries.{summaryOf}
 use Rattle.honest.specs.Marked.{empty}
 use Rattle.honest.specs.Witness.{ends, witness}
-use Rattle.honest.proofs.Instance.{demand3-list, fresh-sound}
+use Rattle.honest.proofs.Instance.{demand3-view, fresh-sound}
 use Rattle.honest.proofs.Check.{legal?, legal?-sound}
 
 computed :
@@ -34,7 +34,7 @@ pub witness-legal : Legal (viewMachine (λ p. p)) empty ends witness
 witness-legal = legal?-sound empty ends witness (computed .0)
 
 pub witness-passes : NeverBlocked (viewMachine (λ p. p)) empty witness
-witness-passes = demand3-list (λ p. p) empty (fresh-sound (λ p. p) 64) ends (omega arith) witness witness-legal
+witness-passes = demand3-view (λ p. p) empty (fresh-sound (λ p. p) 64) ends (omega arith) witness witness-legal
 
 -- of the calls that are no arrivals, the two openings pass and the two others are blocked; every FIN has passed
 pub witness-shows : summaryOf (viewMachine (λ p. p)) empty witness ≡ record { others = 0 ∷ 11 ∷ 14 ∷ 0 ∷ []; place = 1; stage = 5 }
