@@ -1,4 +1,4 @@
--- The marked set on bytes: its packets are read as what they were made from, and the call keeps to the filter without bytes.
+-- The marked set on bytes: its packets are read as what they were made from, and the call keeps to the rows.
 use Prim.Native.Nat.{ℕ, _<_}
 use mathlib.Core.Path.{_≡_, refl, ap, _∙_}
 use mathlib.Core.Logic.{inr}
@@ -44,7 +44,7 @@ Is t T = SoundBytes V4 t × (tableOf V4 t ≡ T)
 abbrev Read : Ask → Type 0
 Read a = readingOf readIPv4 (bytesCall a) ≡ asks a
 
--- A case that holds without bytes holds on bytes
+-- A case that holds of a view holds on bytes
 
 module _ (t : List ℕ) (T : View connections) (a : Ask) (is : Is t T) (read : Read a) where
   answer-same : saidTo t a .answer ≡ answerOf connections (filter connections T a)

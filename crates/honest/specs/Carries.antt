@@ -1,4 +1,4 @@
--- Two lists with the same events, one of a machine's calls, one of the filter's without bytes, each call asking the same; calls that
+-- Two lists with the same events, one of a machine's calls, one of the rows' alone, each call asking the same; calls that
 -- are refused before any connection is looked for may stand in the first alone. The first is legal if the second is. Lists are
 -- newest first.
 use Prim.Native.Nat.{ℕ, zero, suc}

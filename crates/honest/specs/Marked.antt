@@ -1,4 +1,4 @@
--- The marked set of document 01: its example and C1 to C12, as one list with a single claim, over the filter without bytes.
+-- The marked set of document 01: its example and C1 to C12, as one list with a single claim, over a view of a table.
 use Prim.Native.Nat.{ℕ}
 use mathlib.Core.Bool.{Bool, true, _&&_}
 use mathlib.Core.List.{List, [], _∷_}

@@ -1,2 +1,2 @@
-// Definitions and theorems only: the filter without bytes, that it decides as the histories of its connections do, and that two
-// honest ends are never blocked.
+// Definitions and theorems only: that the rows decide by connections as by the histories of these, and that two honest ends are never
+// blocked by a machine that keeps to the rows.
