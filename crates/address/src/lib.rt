@@ -52,7 +52,7 @@ pub fn address_size(version: Version) -> usize
 }
 
 // The part of an address that tells it from most others.
-pub fn low_at(version: Version, s: &[u8], at: usize) -> u64
+fn low_at(version: Version, s: &[u8], at: usize) -> u64
     requires { ⌜ at + addressSize version ≤ length (now s) ⌝ }
     ensures { λ r. ⌜ r ≡ addressAt version (now (s .entry)) at .low ⌝ }
 {
@@ -62,7 +62,7 @@ pub fn low_at(version: Version, s: &[u8], at: usize) -> u64
     }
 }
 
-pub fn high_at(version: Version, s: &[u8], at: usize) -> u64
+fn high_at(version: Version, s: &[u8], at: usize) -> u64
     requires { ⌜ at + addressSize version ≤ length (now s) ⌝ }
     ensures { λ r. ⌜ r ≡ addressAt version (now (s .entry)) at .high ⌝ }
 {
@@ -72,7 +72,7 @@ pub fn high_at(version: Version, s: &[u8], at: usize) -> u64
     }
 }
 
-pub fn read_address(version: Version, s: &[u8], at: usize) -> Address
+fn read_address(version: Version, s: &[u8], at: usize) -> Address
     requires { ⌜ at + addressSize version ≤ length (now s) ⌝ }
     ensures { λ r. ⌜ r ≡ addressAt version (now (s .entry)) at ⌝ }
 {

@@ -1,6 +1,7 @@
 -- The filter over histories: each entry keeps the segments that passed on its connection, on the unwrapped line, and bounds I to
 -- IV over them decide (in stage 1, the three segments). And what the table has for such an entry.
 use Prim.Native.Nat.{ℕ, _+_}
+use mathlib.Core.Path.{_≡_, refl}
 use mathlib.Core.List.{List, [], _∷_}
 use Rattle.choice.specs.Choice.{_=ᵇ_}
 use Rattle.segment.specs.declared.Segment.{Segment}
@@ -32,6 +33,7 @@ histories = record {
   passed = λ (h : History) (i : ℕ) (g : Segment) (now : ℕ). grown (h .side) (placed (h .segments) i g ∷ h .segments) now;
   opened = λ (side : ℕ) (g : Segment) (now : ℕ). grown side (placed [] 0 g ∷ []) now;
   free = record { side = 0; deadline = 0; segments = [] };
+  free-deadline = refl;
   freed = λ (h : History). stageOf (h .segments) =ᵇ 0;
 }
 

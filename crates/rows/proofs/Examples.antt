@@ -31,6 +31,7 @@ rows-give = record {
   place-found = refl;
   place-taken = refl;
   place-none = refl;
+  left-blocked = refl;
   left-clock = refl;
   left-places = refl;
   left-opener = refl;

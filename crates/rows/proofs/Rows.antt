@@ -1,9 +1,10 @@
 -- Each row by the fact that its test asks for, and what a call comes to.
 use Prim.Native.Nat.{ℕ, _-_, _≤_, _<_}
-use mathlib.Core.Path.{_≡_, refl, ap}
+use mathlib.Core.Path.{_≡_, refl, ap, _∙_}
+use mathlib.Core.Logic.{_⊎_, inl, inr}
 use mathlib.Core.Bool.{Bool, true, false, and-false}
 use native.Mathlib.Omega.{arith}
-use borrow.Author.Tests.{eq-eqb, ne-eqb, eqb-true, ltb-true}
+use borrow.Author.Tests.{le-leb, leb-true, eq-eqb, ne-eqb, eqb-true, ltb-true}
 use Rattle.choice.specs.Choice.{if_then_else_, _<ᵇ_, _=ᵇ_}
 use Rattle.choice.proofs.Choice.{if-true, if-false, if-either, if-=, if-=-not}
 use Rattle.choice.proofs.Tests.{&&-true}
@@ -12,7 +13,7 @@ use Rattle.segment.specs.declared.Segment.{Segment}
 use Rattle.connection.specs.declared.Verdict.{Verdict}
 use Rattle.connection.specs.declared.Verdict.the-variants.{Pass, NotAllowed, SequenceMissed, AckMissed}
 use Rattle.rows.specs.Rows as rows
-use Rattle.rows.specs.Rows.{Bodies, Entry, View, Outcome, Blocked, Passed, opens, freeEntry, fromOpener, fromAnswerer, liveMatch, vacant, lowestVacant, senderOf, entryWith, entryAfter, byVerdict, onEntry, openingEntry, onVacant, unmatched, onFound, onSegment, answerOf, after}
+use Rattle.rows.specs.Rows.{Bodies, Entry, View, Outcome, Blocked, Passed, opens, freeEntry, fromOpener, fromAnswerer, liveMatch, vacant, VacantWhereFreeOrExpired, lowestVacant, senderOf, SenderMatches, entryWith, entryAfter, byVerdict, onEntry, openingEntry, onVacant, unmatched, onFound, onSegment, answerOf, after}
 use Rattle.rows.specs.declared.Found.{Found}
 use Rattle.rows.specs.declared.Found.the-variants.{At, Nothing}
 use Rattle.rows.proofs.Places.{found-passes, found-is-first}
@@ -33,6 +34,18 @@ module _ (B : Bodies) where
   sender-answerer e side k is =
       let other = eqb-true side (1 - B .side (e .connection)) (&&-true (side =ᵇ 1 - B .side (e .connection)) _ is .0) in
       if-false _ _ _ (ne-eqb side (B .side (e .connection)) (λ (same : side ≡ B .side (e .connection)). omega arith))
+
+  pub sender-matches : SenderMatches B
+  sender-matches e side k = (sender-opener e side k, sender-answerer e side k)
+
+  -- a free entry's deadline is 0
+  free-or-expired : (now : ℕ) (e : Entry B) → (e ≡ freeEntry B) ⊎ (B .deadline (e .connection) ≤ now) → B .deadline (e .connection) ≤ now
+  free-or-expired now e (inl free) = omega (arith, ap (λ (x : Entry B). B .deadline (x .connection)) free ∙ B .free-deadline)
+  free-or-expired now e (inr expired) = expired
+
+  pub vacant-where-free-or-expired : VacantWhereFreeOrExpired B
+  unfolding vacant
+  vacant-where-free-or-expired now e = ((λ is. inr (leb-true _ _ is)), (λ either. le-leb _ _ (free-or-expired now e either)))
 
   -- an entry that a pass has freed is free, addresses and ports too; any other keeps them
   pub freed-entry : (e : Entry B) (left : B .Body) → B .freed left ≡ true → entryWith B e left ≡ freeEntry B

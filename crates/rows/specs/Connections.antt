@@ -1,13 +1,12 @@
 -- The rows over a table's connections: stage, side, FIN bits, deadline and two records.
-use Prim.Native.Nat.{ℕ, _≤_}
-use mathlib.Core.Path.{_≡_}
-use mathlib.Core.Logic.{_⊎_}
+use Prim.Native.Nat.{ℕ}
+use mathlib.Core.Path.{_≡_, refl}
 use mathlib.Core.Bool.{true}
 use Rattle.choice.specs.Choice.{_=ᵇ_}
 use Rattle.segment.specs.declared.Segment.{Segment}
 use Rattle.connection.specs.Decision.{verdictOn, free, opened, passed}
 use Rattle.connection.specs.declared.Connection.{Connection}
-use Rattle.rows.specs.Rows.{Bodies, Entry, freeEntry, vacant}
+use Rattle.rows.specs.Rows.{Bodies}
 
 abbrev pub connections : Bodies
 connections = record {
@@ -18,6 +17,7 @@ connections = record {
   passed = passed;
   opened = opened;
   free = free;
+  free-deadline = refl;
   -- no connection in use has stage 0
   freed = λ (c : Connection). c .stage =ᵇ 0;
 }
@@ -28,10 +28,3 @@ FreedWhereFree =
     (c : Connection) (i : ℕ) (g : Segment) (now : ℕ) →
     (connections .freed (passed c i g now) ≡ true → passed c i g now ≡ free)
     × (passed c i g now ≡ free → connections .freed (passed c i g now) ≡ true)
-
--- an opening takes a place exactly where it is free or expired
-abbrev pub VacantWhereFreeOrExpired : Type 0
-VacantWhereFreeOrExpired =
-    (now : ℕ) (e : Entry connections) →
-    (vacant connections now e ≡ true → (e ≡ freeEntry connections) ⊎ (e .connection .deadline ≤ now))
-    × ((e ≡ freeEntry connections) ⊎ (e .connection .deadline ≤ now) → vacant connections now e ≡ true)

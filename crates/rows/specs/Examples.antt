@@ -30,12 +30,12 @@ numbers end edge win = record { end = seqNum end; edge = seqNum edge; win = coun
 abbrev connection : (side stage deadline : ℕ) (opener answerer : End) → Connection
 connection side stage deadline opener answerer = record { stage = stage; side = side; fins = 0; deadline = deadline; ends = opener ∷ answerer ∷ [] }
 
--- document 01's example after its first packet; and its state K, in stage 3 and with the opener's side
+-- document 01's example after its first packet; and with the numbers of its state K, in stage 3, opened on a side
 abbrev unanswered : (deadline : ℕ) → Connection
 unanswered deadline = connection 0 1 deadline (numbers 101 101 1000) (numbers 0 0 1)
 
-abbrev stateK : (side deadline : ℕ) → Connection
-stateK side deadline = connection side 3 deadline (numbers 101 2101 1000) (numbers 501 501 2000)
+abbrev established : (side deadline : ℕ) → Connection
+established side deadline = connection side 3 deadline (numbers 101 2101 1000) (numbers 501 501 2000)
 
 abbrev entry : Flow → Connection → Entry connections
 entry k c = record { key = k; connection = c }
@@ -50,11 +50,11 @@ table e f g = record { clock = 90; places = 3; entry = three e f g }
 
 -- all three match the same segments; at clock 100 the first has expired
 abbrev busy : View connections
-busy = table (entry outward (stateK 0 100)) (entry outward (stateK 0 101)) (entry outward (stateK 0 101))
+busy = table (entry outward (established 0 100)) (entry outward (established 0 101)) (entry outward (established 0 101))
 
 -- opened on side 1
 abbrev turned : View connections
-turned = table (entry outward (stateK 1 101)) (entry outward (stateK 1 101)) (entry outward (stateK 1 101))
+turned = table (entry outward (established 1 101)) (entry outward (established 1 101)) (entry outward (established 1 101))
 
 -- at clock 100 no place is free or expired
 abbrev full : View connections
@@ -114,6 +114,8 @@ pub record RowsGive : Type 0 where
   pub place-taken : place busy opening ≡ 20
   -- every other answer gives place 65,535
   pub place-none : place full opening ≡ 65535
+  -- and changes nothing, the clock neither
+  pub left-blocked : left full opening ≡ full
   -- a pass changes only the header clock and that entry: deadline = clock used + life of the new stage
   pub left-clock : left busy (tenOctets 100) .clock ≡ 100
   pub left-places : left busy (tenOctets 100) .places ≡ 3

@@ -1,7 +1,9 @@
 -- Rows 11 to 15 and 0 of document 01, said once: over a view of a table, whatever its bytes, whatever the size of an address, and
 -- whatever an entry keeps of its connection. The call on bytes and the theorems both cite them.
-use Prim.Native.Nat.{ℕ, _-_, max}
-use mathlib.Core.Bool.{Bool, _&&_, _||_}
+use Prim.Native.Nat.{ℕ, _-_, _≤_, max}
+use mathlib.Core.Path.{_≡_}
+use mathlib.Core.Logic.{_⊎_}
+use mathlib.Core.Bool.{Bool, true, _&&_, _||_}
 use Rattle.choice.specs.Choice.{if_then_else_, _<ᵇ_, _≤ᵇ_, _=ᵇ_}
 use Rattle.address.specs.Flows.{sameFlow, reversed, noFlow}
 use Rattle.address.specs.declared.Flow.{Flow}
@@ -26,8 +28,9 @@ pub record Bodies : Type 1 where
   pub passed : Body → ℕ → Segment → ℕ → Body
   -- what an opening from a side leaves, at a clock used
   pub opened : ℕ → Segment → ℕ → Body
-  -- of a free entry; and whether a pass has freed it
+  -- of a free entry, with deadline 0; and whether a pass has freed it
   pub free : Body
+  pub free-deadline : deadline free ≡ 0
   pub freed : Body → Bool
 
 -- a well-formed call: the packet's side, the clock given, addresses and ports as the packet has them, and its segment
@@ -47,7 +50,8 @@ module _ (B : Bodies) where
     pub key : Flow
     pub connection : B .Body
 
-  -- a table, or the part of one that a call is on: the header's clock, the number of places, and the entry at each
+  -- a table, or the part of one that a call is on: the header's clock, the number of places, and the entry at each; past its last place,
+  -- which no row looks at, a view has what it had
   pub record View : Type 0 where
     pub clock : ℕ
     pub places : ℕ
@@ -79,6 +83,13 @@ module _ (B : Bodies) where
   unfoldable pub vacant : ℕ → Entry → Bool
   vacant now e = B .deadline (e .connection) ≤ᵇ now
 
+  -- exactly so
+  abbrev pub VacantWhereFreeOrExpired : Type 0
+  VacantWhereFreeOrExpired =
+      (now : ℕ) (e : Entry) →
+      (vacant now e ≡ true → (e ≡ freeEntry) ⊎ (B .deadline (e .connection) ≤ now))
+      × ((e ≡ freeEntry) ⊎ (B .deadline (e .connection) ≤ now) → vacant now e ≡ true)
+
   -- the first live match from place 0 up
   abbrev pub search : View → ℕ → ℕ → Flow → Found
   search v now side k = firstFrom (λ p. liveMatch now side k (v .entry p)) 0 (v .places)
@@ -104,9 +115,15 @@ module _ (B : Bodies) where
 
   -- Rows 13, 14, 15 and 0: one does
 
-  -- the sender of a match, by the side that it is on: 0 the opener, 1 the answerer
+  -- the sender of a match: 0 the opener, 1 the answerer. Its side tells, as the answerer's is not the opener's
   unfoldable pub senderOf : Entry → ℕ → ℕ
   senderOf e side = if side =ᵇ B .side (e .connection) then 0 else 1
+
+  -- so it is the end that the segment matches as
+  abbrev pub SenderMatches : Type 0
+  SenderMatches =
+      (e : Entry) (side : ℕ) (k : Flow) →
+      (fromOpener e side k ≡ true → senderOf e side ≡ 0) × (fromAnswerer e side k ≡ true → senderOf e side ≡ 1)
 
   -- an entry by its connection after a pass: free, addresses and ports too, if the pass has freed that
   unfoldable pub entryWith : Entry → B .Body → Entry
