@@ -14,16 +14,22 @@ use Rattle.packet.proofs.check_ipv4_header.Tie as tie
 -- the part that was summed is the header
 summed :
     (c : tie.After-header-sum) →
-    c .header-sum .result ≡ onesSum (take (c .before .before .before .args .h) (c .before .before .before .args .s .now))
+    let a = c .before .before .before .args in c .header-sum .result ≡ onesSum (take (a .h) (a .s .now))
 summed c =
     let a = c .before .before .before .args in
     c .header-sum .ensures ∙ ap (λ (k : ℕ). onesSum (take k (a .s .now))) (sub-zero (a .h))
+
+right : (e : tie.Else1) → let a = e .before .before .before .before .args in onesSum (take (a .h) (a .s .now)) ≡ 65535
+right e = sym (summed (e .before)) ∙ e .if1 .left
 
 -- what was read is the fragment word
 fragment :
     (c : tie.After-read16) →
     c .read16 .result % 16384 ≡ bigEndian 2 (c .before .before .before .before .before .args .s .now) 6 % 16384
 fragment c = ap (λ (w : ℕ). w % 16384) (c .read16 .ensures)
+
+whole : (e : tie.Else2) → bigEndian 2 (e .before .before .before .before .before .before .args .s .now) 6 % 16384 ≡ 0
+whole e = sym (fragment (e .before)) ∙ e .if2 .left
 
 sub-header-sum : tie.Need-sub-header-sum
 sub-header-sum c = search needs
@@ -49,8 +55,7 @@ returns-2 : tie.Need-returns-2
 returns-2 c =
     let k = c .before .before in
     let a = k .before .before .before .before .args in
-    let right = sym (summed (k .before)) ∙ k .if1 .left in
-    (sym (refused-row7 (a .s .now) (a .h) (a .t) right (λ e. c .if2 .taken (fragment (c .before) ∙ e))), tt)
+    (sym (refused-row7 (a .s .now) (a .h) (a .t) (right k) (λ e. c .if2 .taken (fragment (c .before) ∙ e))), tt)
 
 shared-slice-read-if3 : tie.Need-shared-slice-read-if3
 shared-slice-read-if3 c = search needs
@@ -60,18 +65,14 @@ returns-3 c =
     let m = c .before .before in
     let k = m .before .before in
     let a = k .before .before .before .before .args in
-    let right = sym (summed (k .before)) ∙ k .if1 .left in
-    let whole = sym (fragment (m .before)) ∙ m .if2 .left in
-    (sym (refused-row8 (a .s .now) (a .h) (a .t) right whole (c .if3 .taken)), tt)
+    (sym (refused-row8 (a .s .now) (a .h) (a .t) (right k) (whole m) (c .if3 .taken)), tt)
 
 returns-4 : tie.Need-returns-4
 returns-4 c =
     let m = c .before .before in
     let k = m .before .before in
     let a = k .before .before .before .before .args in
-    let right = sym (summed (k .before)) ∙ k .if1 .left in
-    let whole = sym (fragment (m .before)) ∙ m .if2 .left in
-    (sym (past-row8 (a .s .now) (a .h) (a .t) right whole (c .if3 .left)), (omega arith, omega arith, omega arith, omega arith))
+    (sym (past-row8 (a .s .now) (a .h) (a .t) (right k) (whole m) (c .if3 .left)), (omega arith, omega arith, omega arith, omega arith))
 
 pub check-ipv4-header-spec : {M : Type 1} → statement M
 check-ipv4-header-spec =

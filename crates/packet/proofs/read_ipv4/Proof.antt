@@ -1,5 +1,5 @@
 -- What the header gives is either refused or handed on to rows 9 and 10.
-use mathlib.Core.Path.{_≡_, sym, ap, subst, _∙_}
+use mathlib.Core.Path.{sym, ap, subst, _∙_}
 use native.Mathlib.Omega.{arith}
 use Rattle.address.specs.declared.Version.the-variants.{V4}
 use Rattle.packet.specs.Read.{ipv4Addresses, onHeader, Inside, refusalNumber}
@@ -19,13 +19,15 @@ enum-known-header-2 c = search needs
 read-tcp-requires : tie.Need-read-tcp-requires
 read-tcp-requires c κs =
     let k = c .before .before .before in
-    let inside = subst (Inside V4 ipv4Addresses (k .before .before .args .s .now)) (c .before .header2 .given .1) (k .read-ipv4-header .ensures .1) in
+    let p = k .before .before .args .s .now in
+    let inside = subst (Inside V4 ipv4Addresses p) (c .before .header2 .given .1) (k .read-ipv4-header .ensures .1) in
     (omega (arith, inside .0), inside .1, inside .2, inside .3)
 
 returns : tie.Need-returns
 returns c =
     let k = c .before .before .before in
-    let e = ap (onHeader V4 ipv4Addresses (k .before .before .args .s .now)) (sym (c .before .header .given .1) ∙ k .read-ipv4-header .ensures .0) in
+    let same = sym (c .before .header .given .1) ∙ k .read-ipv4-header .ensures .0 in
+    let e = ap (onHeader V4 ipv4Addresses (k .before .before .args .s .now)) same in
     (e, ap refusalNumber e)
 
 returns-2 : tie.Need-returns-2

@@ -1,7 +1,5 @@
 -- Row 5's lines, each by the facts that the tests before it gave, then rows 6 to 8.
-use Prim.Native.Nat.{ℕ}
 use mathlib.Core.Path.{_≡_, sym, ap, _∙_}
-use mathlib.Core.List.{List}
 use native.Mathlib.Omega.{arith}
 use Rattle.choice.proofs.Choice.{if-<, if-<-not, if-≠, if-≠-not}
 use Rattle.packet.specs.Tails.{rows6to8}

@@ -72,17 +72,19 @@ returns-4 c =
     let k = c .before .before .before in
     let m = k .before .before in
     let a = m .before .before .before .before .before .args in
-    sym (refused-row10 (a .version) (a .addresses) (a .s .now) (a .h) (a .t) (m .before .before .before .if1 .left) (m .before .if2 .left) (m .if3 .left) _
-    (sym (k .check-flags .ensures) ∙ c .before .check .given .1))
+    let refused = refused-row10 (a .version) (a .addresses) (a .s .now) (a .h) (a .t) in
+    let bad = sym (k .check-flags .ensures) ∙ c .before .check .given .1 in
+    sym (refused (m .before .before .before .if1 .left) (m .before .if2 .left) (m .if3 .left) _ bad)
 
 returns-5 : tie.Need-returns-5
 returns-5 c =
     let k = c .before .before .before .before in
     let m = k .before .before in
     let a = m .before .before .before .before .before .args in
+    let past = past-row10 (a .version) (a .addresses) (a .s .now) (a .h) (a .t) in
+    let fine = sym (k .check-flags .ensures) ∙ c .before .before .enum-told .given .1 in
     (λ i. Tcp (c .before .read-flow .ensures i) (c .read-segment .ensures i))
-    ∙ sym (past-row10 (a .version) (a .addresses) (a .s .now) (a .h) (a .t) (m .before .before .before .if1 .left) (m .before .if2 .left) (m .if3 .left)
-    (sym (k .check-flags .ensures) ∙ c .before .before .enum-told .given .1))
+    ∙ sym (past (m .before .before .before .if1 .left) (m .before .if2 .left) (m .if3 .left) fine)
 
 pub read-tcp-spec : {M : Type 1} → statement M
 read-tcp-spec =
