@@ -45,7 +45,10 @@ reply≡replyOf (Passed p now e) = refl
 
 module _ (v : Version) (t : List ℕ) (long : placeAt v 1 ≤ length t) (short : length t ≤ placeAt v 512) where
   place-within : (p : ℕ) → p < placesIn v t → (p < 512) × (placeAt v p + entrySize v ≤ length t)
-  place-within p inside = (omega (arith, places-most v (length t) short), omega (arith, place-inside v p (placesIn v t) inside, places-inside v (length t) long))
+  place-within p inside =
+      let before-last = place-inside v p (placesIn v t) inside in
+      let last = places-inside v (length t) long in
+      (omega (arith, places-most v (length t) short), omega (arith, before-last, last))
 
   comes-within : (now side : ℕ) (k : Flow) (g : Segment) (o : Outcome) → Comes connections (tableOf v t) now side k g o → Within v t o
   comes-within now side k g o (blocks n is low high) = rw is (omega (arith, low), high)

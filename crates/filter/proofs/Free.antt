@@ -9,15 +9,15 @@ use Rattle.address.specs.Address.{IsAddress, IsFlow}
 use Rattle.address.specs.Flows.{nobody, noFlow}
 use Rattle.address.specs.declared.Version.{Version}
 use Rattle.address.specs.declared.Version.the-variants.{V4, V6}
+use Rattle.rows.specs.Rows as rows
+use Rattle.rows.specs.Connections.{connections}
 use Rattle.entry.specs.Layout.{entrySize, connectionAt, entryAt, endBytes, marksBytes, flowBytes, numbersBytes, entryBytes}
 use Rattle.entry.specs.Typed.{Typed}
+use Rattle.entry.specs.Viewed.{stored}
 use Rattle.entry.specs.declared.Entry.{Entry}
 use Rattle.entry.proofs.Agree.{entryAt-agree}
 use Rattle.table.specs.Table.{allFrom, zerosAt}
 use Rattle.table.proofs.Zeros.{Zeros, zerosAt-true}
-use Rattle.entry.specs.Viewed.{stored}
-use Rattle.rows.specs.Rows as rows
-use Rattle.rows.specs.Connections.{connections}
 
 abbrev pub freeEntry : Entry
 freeEntry = stored (rows.freeEntry connections)

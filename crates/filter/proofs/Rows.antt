@@ -7,7 +7,7 @@ use native.Mathlib.Omega.{arith}
 use lib.ListN.{length}
 use borrow.Author.Tests.{le-leb, leb-true, leb-false, eq-eqb, eqb-true, not-false}
 use Rattle.choice.specs.Choice.{if_then_else_, _≤ᵇ_, _=ᵇ_}
-use Rattle.choice.proofs.Choice.{if-true, if-false, if-ap, if-else, if-=, if-=-not}
+use Rattle.choice.proofs.Choice.{if-true, if-ap, if-else, if-=, if-=-not}
 use Rattle.choice.proofs.Tests.{&&-true, between-true}
 use Rattle.address.specs.declared.Version.{Version}
 use Rattle.address.specs.declared.Version.the-variants.{V4, V6}

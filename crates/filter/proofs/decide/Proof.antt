@@ -11,7 +11,6 @@ use Rattle.table.specs.Table.{viewOf}
 use Rattle.filter.specs.Call.{rows5to10}
 use Rattle.filter.specs.Decision.{decisionOf}
 use Rattle.filter.proofs.Rows.{NotRefused, not-refused, past-row-4, legal-length-bounds, places-inside, sound-table-clock}
-use borrow.Author.Needs.{needs}
 use Rattle.filter.proofs.decide.Statement.{statement}
 use Rattle.filter.proofs.decide.Tie as tie
 

@@ -1,5 +1,5 @@
+-- A number that rows 1 to 4 refuse with is the answer; past them the call is that on the packet read.
 use mathlib.Core.Path.{sym, ap, _∙_}
-use native.Mathlib.Omega.{arith}
 use Rattle.address.specs.declared.Version.the-variants.{V4}
 use Rattle.packet.specs.Read.{readIPv4}
 use Rattle.packet.specs.declared.PacketRead.{PacketRead}
@@ -20,7 +20,8 @@ returns c =
     let k = c .before in
     let a = k .before .before .before .before .args in
     let number = k .table-refusal .ensures in
-    let blocked = refused-by-number V4 (a .side) (a .clock) (a .table .now) (readIPv4 (a .packet .now)) (λ e. c .if1 .taken (number ∙ e)) in (
+    let refused = refused-by-number V4 (a .side) (a .clock) (a .table .now) in
+    let blocked = refused (readIPv4 (a .packet .now)) (λ e. c .if1 .taken (number ∙ e)) in (
       (λ i. record { answer = number i; place = 65535 }) ∙ ap replyOf (sym blocked),
       ap (tableAfter V4 (a .table .now)) (sym blocked),
     )
@@ -39,9 +40,10 @@ returns-2 c =
     let k = c .before .before .before in
     let a = k .before .before .before .before .before .before .before .args in
     let read = k .read-ipv4 .ensures .0 in
-    let called = c .before .before .on-sound-table .ensures in (
-      called .0 ∙ ap (λ (r : PacketRead). replyOf (outcomeOf V4 (a .side) (a .clock) (a .table .now) r)) read,
-      called .1 ∙ ap (λ (r : PacketRead). tableAfter V4 (a .table .now) (outcomeOf V4 (a .side) (a .clock) (a .table .now) r)) read,
+    let called = c .before .before .on-sound-table .ensures in
+    let outcome : PacketRead → Outcome = outcomeOf V4 (a .side) (a .clock) (a .table .now) in (
+      called .0 ∙ ap (λ (r : PacketRead). replyOf (outcome r)) read,
+      called .1 ∙ ap (λ (r : PacketRead). tableAfter V4 (a .table .now) (outcome r)) read,
     )
 
 pub filter-ipv4-spec : {M : Type 1} → statement M

@@ -1,3 +1,4 @@
+-- A packet refused blocks by its cause's number; any other's segment goes on to rows 11 to 15 and 0.
 use Prim.Native.Nat.{ℕ}
 use mathlib.Core.Path.{sym, ap, _∙_}
 use Rattle.packet.specs.declared.PacketRead.{PacketRead}

@@ -1,10 +1,11 @@
 -- Rows 1 to 4, each by the tests before it.
 use Prim.Native.Nat.{_≤_}
-use mathlib.Core.Path.{_≡_, sym, ap, _∙_}
-use mathlib.Core.Bool.{false, not}
+use mathlib.Core.Path.{_≡_, refl, sym, ap, _∙_}
+use mathlib.Core.Bool.{Bool, false, not}
 use native.Mathlib.Omega.{arith}
 use lib.ListN.{length}
 use borrow.Author.Tests.{lt-leb, le-leb, not-false}
+use Rattle.choice.specs.Choice.{if_then_else_}
 use Rattle.choice.proofs.Choice.{if-true, if-false, if-≤, if-≤-not}
 use Rattle.entry.specs.Layout.{placeAt}
 use Rattle.entry.proofs.Places.{header-first}
@@ -16,6 +17,17 @@ use Rattle.filter.proofs.Rows.{legal-length-bounds, places-inside}
 use borrow.Author.Needs.{needs}
 use Rattle.filter.proofs.table_refusal.Statement.{statement}
 use Rattle.filter.proofs.table_refusal.Tie as tie
+
+-- past row 2 the last two lines are left
+past-row-2 :
+    (k : tie.Else2) →
+    let a = k .before .before .before .args in
+    tableRefusal (a .version) (a .side) (a .clock) (a .table .now)
+    ≡ (if not (legalLength (a .version) (length (a .table .now))) then 3
+    else if not (soundTable (a .version) (a .table .now) (placesIn (a .version) (a .table .now))) then 4
+    else 0)
+unfolding tableRefusal
+past-row-2 k = if-false _ _ _ (ap not (le-leb _ 1 (k .before .if1 .left))) ∙ if-≤-not _ _ (k .if2 .left)
 
 -- Past row 3 the table has a header and a place
 
@@ -38,6 +50,17 @@ soundness k =
     let a = start (k .before .before) .args in
     ap not (k .sound .ensures ∙ ap (soundTable (a .version) (a .table .now)) (k .before .places-for .ensures))
 
+-- so row 4 is that test
+row-4 :
+    (k : tie.After-sound) {b : Bool} → not (k .sound .result) ≡ b →
+    let a = start (k .before .before) .args in
+    tableRefusal (a .version) (a .side) (a .clock) (a .table .now) ≡ (if b then 4 else 0)
+row-4 k test =
+    let e = k .before .before in
+    past-row-2 (e .before .before)
+    ∙ if-false _ _ _ (legal e)
+    ∙ ap (λ (b : Bool). if b then 4 else 0) (sym (soundness k) ∙ test)
+
 returns : tie.Need-returns
 unfolding tableRefusal
 returns c = sym (if-true _ _ _ (ap not (lt-leb _ 1 (c .if1 .taken))))
@@ -50,11 +73,9 @@ legal-length-requires : tie.Need-legal-length-requires
 legal-length-requires c κs = search needs
 
 returns-3 : tie.Need-returns-3
-unfolding tableRefusal
 returns-3 c =
-    let k = c .before .before in
     let illegal = ap not (sym (c .before .legal-length .ensures)) ∙ c .if3 .taken in
-    sym (if-false _ _ _ (ap not (le-leb _ 1 (k .before .if1 .left))) ∙ if-≤-not _ _ (k .if2 .left) ∙ if-true _ _ _ illegal)
+    sym (past-row-2 (c .before .before) ∙ if-true _ _ _ illegal)
 
 places-for-requires : tie.Need-places-for-requires
 places-for-requires c κs = omega (arith, header-first (start c .args .version) 1, long c)
@@ -62,25 +83,14 @@ places-for-requires c κs = omega (arith, header-first (start c .args .version) 
 sound-requires : tie.Need-sound-requires
 sound-requires c κs =
     let a = start (c .before) .args in
-    omega (arith, ap (placeAt (a .version)) (c .places-for .ensures), places-inside (a .version) (length (a .table .now)) (long (c .before)))
+    let inside = places-inside (a .version) (length (a .table .now)) (long (c .before)) in
+    omega (arith, ap (placeAt (a .version)) (c .places-for .ensures), inside)
 
 returns-4 : tie.Need-returns-4
-unfolding tableRefusal
-returns-4 c =
-    let e = c .before .before .before in
-    let k = e .before .before in
-    let unsound = sym (soundness (c .before)) ∙ c .if4 .taken in
-    sym (if-false _ _ _ (ap not (le-leb _ 1 (k .before .if1 .left))) ∙ if-≤-not _ _ (k .if2 .left) ∙ if-false _ _ _ (legal e)
-    ∙ if-true _ _ _ unsound)
+returns-4 c = sym (row-4 (c .before) (c .if4 .taken) ∙ if-true _ _ _ refl)
 
 returns-5 : tie.Need-returns-5
-unfolding tableRefusal
-returns-5 c =
-    let e = c .before .before .before in
-    let k = e .before .before in
-    let sound = sym (soundness (c .before)) ∙ c .if4 .left in
-    sym (if-false _ _ _ (ap not (le-leb _ 1 (k .before .if1 .left))) ∙ if-≤-not _ _ (k .if2 .left) ∙ if-false _ _ _ (legal e)
-    ∙ if-false _ _ _ sound)
+returns-5 c = sym (row-4 (c .before) (c .if4 .left) ∙ if-false _ _ _ refl)
 
 pub table-refusal-spec : {M : Type 1} → statement M
 table-refusal-spec =

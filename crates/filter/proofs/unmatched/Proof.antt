@@ -1,14 +1,33 @@
-use mathlib.Core.Path.{sym, ap, _∙_}
-use Rattle.entry.specs.declared.Entry.{Entry}
-use Rattle.rows.specs.Rows.{Passed}
+-- Only a SYN from side 0 opens an entry, in the lowest vacant place; any other is row 11's.
+use mathlib.Core.Path.{_≡_, sym, ap, _∙_}
+use Rattle.rows.specs.Rows.{View, Passed, onVacant, unmatched}
 use Rattle.rows.specs.Connections.{connections}
-use Rattle.table.specs.Table.{viewOf}
-use Rattle.entry.specs.Viewed.{viewed}
-use Rattle.filter.specs.Decision.{decisionOf}
+use Rattle.rows.specs.declared.Found.{Found}
+use Rattle.rows.specs.declared.Found.the-variants.{At, Nothing}
 use Rattle.rows.proofs.Rows.{unmatched-not-from-side-0, unmatched-not-syn, unmatched-syn}
+use Rattle.entry.specs.Viewed.{viewed}
+use Rattle.entry.specs.declared.Entry.{Entry}
+use Rattle.table.specs.Table.{viewOf}
+use Rattle.filter.specs.Decision.{decisionOf}
 use borrow.Author.Needs.{needs}
 use Rattle.filter.proofs.unmatched.Statement.{statement}
 use Rattle.filter.proofs.unmatched.Tie as tie
+
+abbrev view : tie.Start → View connections
+view s = let a = s .args in viewOf (a .version) (a .table .now) (a .places)
+
+-- the row of a SYN from side 0, by the place that is vacant
+by-vacant :
+    (k : tie.After-vacant) (o : Found) → k .vacant .result ≡ o →
+    let s = k .before .before .before .before in
+    let a = s .args in
+    unmatched connections (view s) (a .clock) (a .side) (a .flow) (a .segment)
+    ≡ onVacant connections o (a .clock) (a .side) (a .flow) (a .segment)
+by-vacant k o found =
+    let s = k .before .before .before .before in
+    let a = s .args in
+    let syn = unmatched-syn connections (view s) (a .clock) (a .side) (a .flow) (a .segment) in
+    syn (k .before .before .if1 .left) (k .before .match .keys1) o (sym (k .vacant .ensures) ∙ found)
 
 blocked-requires : tie.Need-blocked-requires
 blocked-requires c κs = search needs
@@ -39,24 +58,17 @@ blocked-requires-3 c κs = search needs
 
 returns-2 : tie.Need-returns-2
 returns-2 c =
-    let k = c .before .before .before .before .before in
-    let s = k .before .before in
-    let z = s .before .before in
-    let a = z .args in
-    let h = sym (k .vacant .ensures) ∙ c .before .before .before .found .given .1 in
+    let f = c .before .before .before in
+    let k = f .before .before in
+    let now = k .before .before .before .before .args .clock in
+    let p = f .found .given .0 .0 in
     c .passed .ensures
-    ∙ ap (λ (x : Entry). decisionOf (Passed (c .before .before .before .found .given .0 .0) (a .clock) (viewed x))) (c .before .opening .ensures)
-    ∙ ap decisionOf (sym (unmatched-syn connections (viewOf (a .version) (a .table .now) (a .places)) (a .clock) (a .side) (a .flow) (a .segment) (s .if1 .left) (k .before .match .keys1) _ h))
+    ∙ ap (λ (e : Entry). decisionOf (Passed p now (viewed e))) (c .before .opening .ensures)
+    ∙ ap decisionOf (sym (by-vacant k (At p) (f .found .given .1)))
 
 returns-3 : tie.Need-returns-3
 returns-3 c =
-    let k = c .before .before .before in
-    let s = k .before .before in
-    let z = s .before .before in
-    let a = z .args in
-    let h = sym (k .vacant .ensures) ∙ c .before .enum-told .given .1 in
-    c .blocked2 .ensures
-    ∙ ap decisionOf (sym (unmatched-syn connections (viewOf (a .version) (a .table .now) (a .places)) (a .clock) (a .side) (a .flow) (a .segment) (s .if1 .left) (k .before .match .keys1) _ h))
+    c .blocked2 .ensures ∙ ap decisionOf (sym (by-vacant (c .before .before .before) Nothing (c .before .enum-told .given .1)))
 
 returns-4 : tie.Need-returns-4
 returns-4 c = c .blocked3 .ensures ∙ ap decisionOf (sym (unmatched-not-syn _ _ _ _ _ _ (c .before .match .rest .1)))
