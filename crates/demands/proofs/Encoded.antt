@@ -9,10 +9,10 @@ use lib.Seq.{drop-cons, drop-length, drop-drop, getD-take, getD-drop, length-tak
 use Rattle.choice.proofs.Tests.{&&-true}
 use Rattle.octets.specs.BigEndian.{octetsOf}
 use Rattle.octets.proofs.BigEndian.{octetsOf-bigEndian}
-use Rattle.entry.specs.Layout.{headerSize, entrySize, placeAt}
 use Rattle.address.specs.declared.Version.{Version}
+use Rattle.entry.specs.Layout.{headerSize, entrySize, placeAt}
 use Rattle.entry.proofs.Places.{first-place, next-place, place-inside, header-first}
-use Rattle.table.specs.Table.{headerMark, headerClock, soundAt, soundHeader, soundTable}
+use Rattle.table.specs.Table.{clockAt, headerZerosAt, headerZeros, markAt, lastAt, headerMark, headerClock, soundAt, soundHeader, soundTable}
 use Rattle.table.proofs.Places.{each-of-all}
 use Rattle.table.proofs.Facts.{table-facts}
 use Rattle.table.proofs.RoundTrip.{sound-re-encodes}
@@ -49,30 +49,34 @@ module _ (v : Version) (t : List ℕ) (s : SoundBytes v t) where
 
   entries-part : (k i : ℕ) → i + k ≡ placesIn v t → entriesBytes v (tableOf v t) i k ≡ drop (placeAt v i) t
   unfolding entriesBytes
-  entries-part zero i all = let end : placeAt v i ≡ length t = ap (placeAt v) (omega arith) ∙ sym size in sym (ap (λ at. drop at t) end ∙ drop-length t)
+  entries-part zero i all =
+      let end : placeAt v i ≡ length t = ap (placeAt v) (omega arith) ∙ sym size in
+      sym (ap (λ at. drop at t) end ∙ drop-length t)
   entries-part (suc k) i all =
       let fits : placeAt v i + entrySize v ≤ length t = omega (arith, size, place-inside v i (placesIn v t) (omega arith)) in
-      ap (λ l. l ++ entriesBytes v (tableOf v t) (i + 1) k) (sound-re-encodes v t i (s .octets) fits (sound-place v t (placesIn v t) (s .sound) i (omega arith)))
-      ∙ ap (λ l. take (entrySize v) (drop (placeAt v i) t) ++ l) (entries-part k (i + 1) (omega arith) ∙ ap (λ at. drop at t) (next-place v i))
+      let entry = sound-re-encodes v t i (s .octets) fits (sound-place v t (placesIn v t) (s .sound) i (omega arith)) in
+      let rest = entries-part k (i + 1) (omega arith) ∙ ap (λ at. drop at t) (next-place v i) in
+      (λ j. entry j ++ rest j)
       ∙ next-part (entrySize v) (placeAt v i) t
 
-  clock-part : octetsOf 8 (headerClock t) ≡ take 8 (drop 0 t)
+  clock-part : octetsOf 8 (headerClock t) ≡ take 8 (drop clockAt t)
   unfolding headerClock
-  clock-part = octetsOf-bigEndian 8 t 0 (omega (arith, header-inside)) (s .octets)
+  clock-part = octetsOf-bigEndian 8 t clockAt (omega (arith, header-inside)) (s .octets)
 
   -- the version's mark, the last byte of the header, and the entries
-  mark-part : headerMark v ∷ 0 ∷ entriesBytes v (tableOf v t) 0 (placesIn v t) ≡ drop 62 t
+  mark-part : headerMark v ∷ 0 ∷ entriesBytes v (tableOf v t) 0 (placesIn v t) ≡ drop markAt t
   mark-part =
       let f = table-facts v t (placesIn v t) (s .sound) in
       let entries = entries-part (placesIn v t) 0 (omega arith) ∙ ap (λ at. drop at t) (first-place v) in
       (λ i. sym (f .mark) i ∷ sym (f .header-end) i ∷ entries i)
-      ∙ ap (λ l. getD t 62 0 ∷ l) (octet-part 63 t (omega (arith, header-inside)))
-      ∙ octet-part 62 t (omega (arith, header-inside))
+      ∙ ap (λ l. getD t markAt 0 ∷ l) (octet-part lastAt t (omega (arith, header-inside)))
+      ∙ octet-part markAt t (omega (arith, header-inside))
 
   -- the table's bytes are those of the table that they are
   pub sound-bytes : t ≡ tableBytes v (tableOf v t)
   sound-bytes =
-      let zeros = zeros-part 54 8 t (omega (arith, header-inside)) (table-facts v t (placesIn v t) (s .sound) .header) in
-      sym (next-part 8 0 t)
-      ∙ (λ i. sym clock-part i ++ sym (next-part 54 8 t) i)
+      let f = table-facts v t (placesIn v t) (s .sound) in
+      let zeros = zeros-part headerZeros headerZerosAt t (omega (arith, header-inside)) (f .header) in
+      sym (next-part 8 clockAt t)
+      ∙ (λ i. sym clock-part i ++ sym (next-part headerZeros headerZerosAt t) i)
       ∙ (λ i. octetsOf 8 (headerClock t) ++ (sym zeros i ++ sym mark-part i))

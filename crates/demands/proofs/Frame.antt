@@ -11,18 +11,17 @@ use Rattle.octets.specs.Overwrite.{overwrite}
 use Rattle.octets.proofs.Overwrite.{length-overwrite, getD-overwrite-before, getD-overwrite-after}
 use Rattle.octets.proofs.Agree.{Agree, overwrite-agree}
 use Rattle.octets.proofs.BigEndian.{length-octetsOf, bigEndian-agree, bigEndian-overwrite}
-use Rattle.entry.specs.Layout.{entrySize, placeAt, entryAt, entryBytes}
+use Rattle.address.specs.declared.Version.{Version}
+use Rattle.entry.specs.Layout.{headerSize, entrySize, placeAt, entryAt, entryBytes}
 use Rattle.entry.specs.Typed.{Typed}
 use Rattle.entry.specs.declared.Entry.{Entry}
-use Rattle.entry.specs.Layout.{headerSize}
 use Rattle.entry.proofs.Places.{header-first, place-inside}
-use Rattle.filter.proofs.Rows.{place-in-table}
 use Rattle.entry.proofs.Sizes.{length-entryBytes}
 use Rattle.entry.proofs.Agree.{entryAt-agree}
 use Rattle.entry.proofs.RoundTrip.{load-stored}
 use Rattle.table.specs.Table.{headerClock}
 use Rattle.filter.specs.Call.{placesIn, withEntry}
-use Rattle.address.specs.declared.Version.{Version}
+use Rattle.filter.proofs.Rows.{place-in-table}
 
 module _ (v : Version) where
   module _ (t : List ℕ) (p now : ℕ) (e : Entry) (inside : p < placesIn v t) where
@@ -95,7 +94,9 @@ module _ (v : Version) where
         below less = before-entry (placeAt v q + i) (omega (arith, place-inside v q p less))
 
         above : p ≤ q → getD after (placeAt v q + i) 0 ≡ getD clocked (placeAt v q + i) 0
-        above least = ⊎-elim (λ more. past-entry (placeAt v q + i) (omega (arith, place-inside v p q more))) (λ most. absurd (differs (omega arith))) (lt-or-ge p q)
+        above least =
+            ⊎-elim (λ more. past-entry (placeAt v q + i) (omega (arith, place-inside v p q more))) (λ most. absurd (differs (omega arith)))
+            (lt-or-ge p q)
 
     pub entry-other : (q : ℕ) → (q ≡ p → ⊥) → entryAt v (withEntry v t p now e) (placeAt v q) ≡ entryAt v t (placeAt v q)
     entry-other q differs = entryAt-agree v after (placeAt v q) t (placeAt v q) (place-other q differs)

@@ -1,105 +1,111 @@
 -- An all-zero table is a fresh one, and sound.
-use Prim.Native.Nat.{ℕ, _+_, _-_, _%_, _≤_, _<_}
-use mathlib.Core.Path.{_≡_, sym, ap, _∙_}
+use Prim.Native.Nat.{ℕ, _+_, _≤_, _<_}
+use mathlib.Core.Path.{_≡_, _∙_}
 use mathlib.Core.Logic.{inl, ⊎-elim}
-use mathlib.Core.Bool.{true}
 use mathlib.Core.List.{List, [], _∷_}
-use Rattle.octets.specs.Octets.{Octets}
-use Rattle.octets.proofs.Overwrite.{length-overwrite, getD-overwrite, getD-overwrite-before, getD-overwrite-after}
-use Rattle.octets.proofs.Octets.{bytes-[], bytes-∷, octets-overwrite}
-use Rattle.entry.proofs.Places.{header-first}
-use Rattle.table.specs.Table.{headerMark}
-use Rattle.table.proofs.Words.{mark-most}
-use Rattle.filter.proofs.Rows.{places-made, length-made}
-use Rattle.demands.specs.Demands.{freshBytes}
 use native.Mathlib.Omega.{arith}
 use lib.ListN.{length, getD, replicate, length-replicate, getD-replicate, List·getD-eq-default}
-use borrow.Author.Tests.{le-leb, eq-eqb}
 use Rattle.choice.proofs.Tests.{lt-or-ge}
+use Rattle.octets.specs.Octets.{Octets}
 use Rattle.octets.specs.BigEndian.{bigEndian}
 use Rattle.octets.specs.Digits.{number}
+use Rattle.octets.proofs.Overwrite.{length-overwrite, getD-overwrite, getD-overwrite-before, getD-overwrite-after}
+use Rattle.octets.proofs.Octets.{bytes-[], bytes-∷, octets-overwrite}
 use Rattle.octets.proofs.BigEndian.{bigEndian-agree}
-use Rattle.entry.specs.Layout.{headerSize, entrySize, placeAt}
-use Rattle.table.specs.Table.{headerClock}
+use Rattle.address.specs.declared.Version.{Version}
+use Rattle.rows.specs.Connections.{connections}
+use Rattle.entry.specs.Layout.{entrySize, placeAt}
+use Rattle.entry.specs.Viewed.{viewed}
+use Rattle.entry.proofs.Places.{header-first}
+use Rattle.table.specs.Table.{clockAt, headerZerosAt, markAt, lastAt, headerClock, headerMark}
+use Rattle.table.proofs.Words.{mark-most}
 use Rattle.table.proofs.Zeros.{Zeros}
 use Rattle.table.proofs.Facts.{SoundFacts, facts-table}
 use Rattle.filter.specs.Call.{placesIn, tableOf}
+use Rattle.filter.proofs.Rows.{places-made, length-made}
 use Rattle.filter.proofs.Free.{zeros-free}
-use Rattle.rows.specs.Connections.{connections}
-use Rattle.entry.specs.Viewed.{viewed}
 use Rattle.honest.specs.Demand2.{fresh}
+use Rattle.demands.specs.Demands.{freshBytes}
 use Rattle.demands.specs.Bytes.{SoundBytes}
-use Rattle.address.specs.declared.Version.{Version}
 
-module _ (v : Version) where
-  abbrev zeroBytes : ℕ → List ℕ
-  zeroBytes n = replicate n 0
+-- Zeros
 
-  length-zeroBytes : (n : ℕ) → length (zeroBytes n) ≡ n
-  length-zeroBytes n = length-replicate {A = ℕ} n 0
+abbrev zeroBytes : ℕ → List ℕ
+zeroBytes n = replicate n 0
 
-  getD-zeroBytes : (n i : ℕ) → getD (zeroBytes n) i 0 ≡ 0
-  getD-zeroBytes n i = ⊎-elim within past (lt-or-ge i n)
-    where
-      within : i < n → getD (zeroBytes n) i 0 ≡ 0
-      within h = getD-replicate n i 0 0 h
+length-zeroBytes : (n : ℕ) → length (zeroBytes n) ≡ n
+length-zeroBytes n = length-replicate {A = ℕ} n 0
 
-      past : n ≤ i → getD (zeroBytes n) i 0 ≡ 0
-      past h = List·getD-eq-default (zeroBytes n) 0 (rw (length-zeroBytes n) h)
+getD-zeroBytes : (n i : ℕ) → getD (zeroBytes n) i 0 ≡ 0
+getD-zeroBytes n i = ⊎-elim within past (lt-or-ge i n)
+  where
+    within : i < n → getD (zeroBytes n) i 0 ≡ 0
+    within h = getD-replicate n i 0 0 h
 
-  -- a table with n places, and its bytes but for the mark
-  module _ (n : ℕ) where
-    abbrev made : List ℕ
-    made = freshBytes v n
+    past : n ≤ i → getD (zeroBytes n) i 0 ≡ 0
+    past h = List·getD-eq-default (zeroBytes n) 0 (rw (length-zeroBytes n) h)
 
-    fits : 62 + length (headerMark v ∷ []) ≤ length (zeroBytes (placeAt v n))
-    fits = rw (length-zeroBytes (placeAt v n)) (omega (arith, header-first v n))
+-- A table with n places: zeros but for the version's mark
 
-    length-made-bytes : length made ≡ placeAt v n
-    length-made-bytes = length-overwrite (zeroBytes (placeAt v n)) 62 (headerMark v ∷ []) fits ∙ length-zeroBytes (placeAt v n)
+module _ (v : Version) (n : ℕ) where
+  abbrev zeros : List ℕ
+  zeros = zeroBytes (placeAt v n)
 
-    zero-before : (i : ℕ) → i < 62 → getD made i 0 ≡ 0
-    zero-before i h = getD-overwrite-before (zeroBytes (placeAt v n)) 62 (headerMark v ∷ []) fits i h ∙ getD-zeroBytes (placeAt v n) i
+  abbrev mark : List ℕ
+  mark = headerMark v ∷ []
 
-    zero-after : (i : ℕ) → 63 ≤ i → getD made i 0 ≡ 0
-    zero-after i h = getD-overwrite-after (zeroBytes (placeAt v n)) 62 (headerMark v ∷ []) fits i h ∙ getD-zeroBytes (placeAt v n) i
+  abbrev made : List ℕ
+  made = freshBytes v n
 
-    marked : getD made 62 0 ≡ headerMark v
-    marked = getD-overwrite (zeroBytes (placeAt v n)) 62 (headerMark v ∷ []) fits 0 (omega arith)
+  mark-fits : markAt + length mark ≤ length zeros
+  mark-fits = rw (length-zeroBytes (placeAt v n)) (omega (arith, header-first v n))
 
-    made-octets : Octets made
-    made-octets =
-        octets-overwrite (zeroBytes (placeAt v n)) 62 (headerMark v ∷ []) (λ i. rw (getD-zeroBytes (placeAt v n) i) (omega arith))
-        (bytes-∷ (omega (arith, mark-most v)) bytes-[] .small)
+  length-made-bytes : length made ≡ placeAt v n
+  length-made-bytes = length-overwrite zeros markAt mark mark-fits ∙ length-zeroBytes (placeAt v n)
 
-    place-zeros : (p : ℕ) → Zeros made (placeAt v p) (entrySize v)
-    place-zeros p i h = zero-after (placeAt v p + i) (omega (arith, header-first v p))
+  zero-before : (i : ℕ) → i < markAt → getD made i 0 ≡ 0
+  zero-before i h = getD-overwrite-before zeros markAt mark mark-fits i h ∙ getD-zeroBytes (placeAt v n) i
 
-    zero-clock : headerClock made ≡ 0
-    unfolding headerClock bigEndian number
-    zero-clock = bigEndian-agree made 0 [] 0 8 (λ i h. zero-before (0 + i) (omega arith))
+  zero-after : (i : ℕ) → lastAt ≤ i → getD made i 0 ≡ 0
+  zero-after i h = getD-overwrite-after zeros markAt mark mark-fits i h ∙ getD-zeroBytes (placeAt v n) i
 
-    fresh-places : placesIn v made ≡ n
-    fresh-places = rw length-made-bytes (places-made v n)
+  marked : getD made markAt 0 ≡ headerMark v
+  marked = getD-overwrite zeros markAt mark mark-fits 0 (omega arith)
 
-    fresh-facts : (k : ℕ) → SoundFacts v made k
-    fresh-facts k = record {
-      clock = rw zero-clock (omega arith);
-      header = λ i h. zero-before (8 + i) (omega arith);
-      mark = marked;
-      header-end = zero-after 63 (omega arith);
-      places = λ p h. inl (place-zeros p);
-    }
+  made-octets : Octets made
+  made-octets =
+      octets-overwrite zeros markAt mark (λ i. rw (getD-zeroBytes (placeAt v n) i) (omega arith))
+      (bytes-∷ (omega (arith, mark-most v)) bytes-[] .small)
 
-    pub fresh-bytes-sound : 1 ≤ n → n ≤ 512 → SoundBytes v (freshBytes v n)
-    fresh-bytes-sound some most = record {
-      octets = made-octets;
-      legal = rw length-made-bytes (length-made v n some most);
-      sound = facts-table v made _ (fresh-facts _);
-    }
+  place-zeros : (p : ℕ) → Zeros made (placeAt v p) (entrySize v)
+  place-zeros p i h = zero-after (placeAt v p + i) (omega (arith, header-first v p))
 
-    pub fresh-bytes-view : tableOf v (freshBytes v n) ≡ fresh connections n
-    fresh-bytes-view =
-        let clock = zero-clock in
-        let places = fresh-places in
-        λ i. record { clock = clock i; places = places i; entry = λ p. viewed (zeros-free v made (placeAt v p) (place-zeros p) i) }
+  zero-clock : headerClock made ≡ 0
+  unfolding headerClock bigEndian number
+  zero-clock = bigEndian-agree made clockAt [] 0 8 (λ i h. zero-before (clockAt + i) (omega arith))
+
+  fresh-places : placesIn v made ≡ n
+  fresh-places = rw length-made-bytes (places-made v n)
+
+  fresh-facts : (k : ℕ) → SoundFacts v made k
+  fresh-facts k = record {
+    clock = rw zero-clock (omega arith);
+    header = λ i h. zero-before (headerZerosAt + i) (omega arith);
+    mark = marked;
+    header-end = zero-after lastAt (omega arith);
+    places = λ p h. inl (place-zeros p);
+  }
+
+  pub fresh-bytes-sound : 1 ≤ n → n ≤ 512 → SoundBytes v (freshBytes v n)
+  fresh-bytes-sound some most = record {
+    octets = made-octets;
+    legal = rw length-made-bytes (length-made v n some most);
+    sound = facts-table v made _ (fresh-facts _);
+  }
+
+  pub fresh-bytes-view : tableOf v (freshBytes v n) ≡ fresh connections n
+  fresh-bytes-view = λ i. record {
+    clock = zero-clock i;
+    places = fresh-places i;
+    entry = λ p. viewed (zeros-free v made (placeAt v p) (place-zeros p) i);
+  }

@@ -13,10 +13,10 @@ use Rattle.packet.specs.Reader.{ReaderOf}
 use Rattle.packet.specs.declared.PacketRead.{PacketRead}
 use Rattle.packet.proofs.Readable.{ipv4-reader}
 use Rattle.connection.specs.Sound.{soundConnection}
-use Rattle.history.specs.History.{Placeable}
-use Rattle.history.proofs.Places.{readable-placeable}
 use Rattle.rows.specs.Rows.{Ask, Entry, Outcome, Blocked, Passed, clockUsed, filter, after}
 use Rattle.rows.specs.Connections.{connections}
+use Rattle.history.specs.History.{Placeable}
+use Rattle.history.proofs.Places.{readable-placeable}
 use Rattle.entry.specs.Typed.{Typed}
 use Rattle.entry.specs.Viewed.{stored}
 use Rattle.entry.proofs.Octets.{typed-entryAt}
@@ -67,10 +67,20 @@ module _ (v : Version) (t : List ℕ) (a : Ask) (s : SoundBytes v t) (brought : 
       let later : headerClock t ≤ now = omega (arith, left .clock) in
       sound-after v t p now (stored e) s (left .inside) (now-small p now e left) later (entry-typed p now e left) (entry-sound p now e left)
 
-  left-by : LeftBy (tableOf v t) a (filter connections (tableOf v t) a)
+  -- the call's own outcome
+  abbrev outcome : Outcome connections
+  outcome = filter connections (tableOf v t) a
+
+  left-by : LeftBy (tableOf v t) a outcome
   left-by =
       filter-left (tableOf v t) a (sound-view v t s) (typed-view v t s) (brought .side)
       (readable-placeable (a .segment) (brought .segment))
+
+  outcome-view : tableOf v (tableAfter v t outcome) ≡ after connections (tableOf v t) outcome
+  outcome-view = left-view outcome left-by
+
+  outcome-sound : SoundBytes v (tableAfter v t outcome)
+  outcome-sound = left-sound outcome left-by
 
 -- The machine
 
@@ -83,10 +93,10 @@ module _ (v : Version) (read : List ℕ → PacketRead) (reader : ReaderOf v rea
     brought = asks-brought v read reader q a is
 
     asks-left : tableOf v (tableAfter v t (called v read t q)) ≡ after connections (tableOf v t) (filter connections (tableOf v t) a)
-    asks-left = rw (asks-outcome v read q t s a is) (left-view v t a s brought (filter connections (tableOf v t) a) (left-by v t a s brought))
+    asks-left = rw (asks-outcome v read q t s a is) (outcome-view v t a s brought)
 
     asks-sound : SoundBytes v (tableAfter v t (called v read t q))
-    asks-sound = rw (asks-outcome v read q t s a is) (left-sound v t a s brought (filter connections (tableOf v t) a) (left-by v t a s brought))
+    asks-sound = rw (asks-outcome v read q t s a is) (outcome-sound v t a s brought)
 
   sound-kept : (t : List ℕ) (q : BytesCall) → SoundBytes v t → SoundBytes v (tableAfter v t (called v read t q))
   sound-kept t q s = go (readingOf read q) refl

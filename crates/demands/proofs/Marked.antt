@@ -12,19 +12,19 @@ use Rattle.choice.proofs.Tests.{&&-true}
 use Rattle.serial.specs.Ring.{wrap, ringMinus}
 use Rattle.octets.specs.Digits.{number, digits}
 use Rattle.octets.specs.BigEndian.{bigEndian, octetsOf}
+use Rattle.address.specs.declared.Version.the-variants.{V4}
 use Rattle.packet.specs.Sum.{onesPlus, onesSum}
 use Rattle.packet.specs.Read.{readIPv4, ipv4Header, rows9to10}
 use Rattle.connection.specs.Sound.{soundFins, soundEnd, soundUnanswered, soundConnection}
 use Rattle.rows.specs.Rows as rows
 use Rattle.rows.specs.Rows.{Ask, View, Passed, filter, answerOf, placeBy}
 use Rattle.rows.specs.Connections.{connections}
-use Rattle.address.specs.declared.Version.the-variants.{V4}
 use Rattle.entry.specs.Typed.{Typed}
 use Rattle.entry.specs.Viewed.{stored}
+use Rattle.entry.proofs.Places.{next-place}
 use Rattle.table.specs.Table.{headerClock}
 use Rattle.filter.specs.Call.{placesIn, tableOf, tableAfter}
 use Rattle.filter.proofs.Rows.{inside-places, legal-length-bounds}
-use Rattle.entry.proofs.Places.{next-place}
 use Rattle.honest.specs.Machine.{asks}
 use Rattle.honest.specs.Marked.{after, empty, packet1, packet2, opened, stateK, entry11, state11, Name, example, C, Case, markedSet, isLeft, holds, allHold}
 use Rattle.honest.proofs.Marked.{marked}

@@ -1,5 +1,5 @@
 -- A pass leaves sound bytes sound.
-use Prim.Native.Nat.{ℕ, _^_, _≤_, _<_}
+use Prim.Native.Nat.{ℕ, _+_, _^_, _≤_, _<_}
 use mathlib.Core.Path.{_≡_, ap, _∙_}
 use mathlib.Core.Logic.{_⊎_, inl, inr}
 use mathlib.Core.Bool.{true, false}
@@ -13,6 +13,7 @@ use Rattle.octets.specs.BigEndian.{octetsOf}
 use Rattle.octets.specs.Overwrite.{overwrite}
 use Rattle.octets.proofs.Agree.{Agree}
 use Rattle.octets.proofs.Octets.{octets-octetsOf, octets-overwrite}
+use Rattle.address.specs.declared.Version.{Version}
 use Rattle.connection.specs.Sound.{soundConnection}
 use Rattle.connection.proofs.Sound.{later-sound}
 use Rattle.entry.specs.Layout.{entrySize, placeAt, entryBytes, entryAt}
@@ -20,13 +21,12 @@ use Rattle.entry.specs.Typed.{Typed}
 use Rattle.entry.specs.declared.Entry.{Entry}
 use Rattle.entry.proofs.Agree.{entryAt-agree, zeroBytes-agree}
 use Rattle.entry.proofs.Octets.{octets-entryBytes, zeroBytes-entryBytes}
-use Rattle.table.specs.Table.{headerClock}
+use Rattle.table.specs.Table.{headerZeros, headerClock}
 use Rattle.table.proofs.Facts.{SoundPlace, SoundFacts, table-facts, facts-table}
 use Rattle.filter.specs.Call.{placesIn, withEntry}
 use Rattle.filter.proofs.Free.{freeEntry, free-zeros}
 use Rattle.demands.specs.Bytes.{SoundBytes}
 use Rattle.demands.proofs.Frame.{length-after, placesIn-after, clock-after, header-after, place-same, place-other, entry-same}
-use Rattle.address.specs.declared.Version.{Version}
 
 module _ (v : Version) where
   -- a place with the same bytes stays sound, since the clock only rises
@@ -53,16 +53,24 @@ module _ (v : Version) where
         connection = ap (λ (x : Entry). soundConnection now (x .connection)) back ∙ sound;
       })
 
-  module _ (t : List ℕ) (p now : ℕ) (e : Entry) (s : SoundBytes v t) (inside : p < placesIn v t) (small : now < 2 ^ 48) (later : headerClock t ≤ now) (typed : Typed v e) (new : (e ≡ freeEntry) ⊎ (soundConnection now (e .connection) ≡ true)) where
+  module _
+      (t : List ℕ) (p now : ℕ) (e : Entry) (s : SoundBytes v t) (inside : p < placesIn v t) (small : now < 2 ^ 48)
+      (later : headerClock t ≤ now) (typed : Typed v e) (new : (e ≡ freeEntry) ⊎ (soundConnection now (e .connection) ≡ true)) where
+    -- with the clock written, and then the entry
+    abbrev clocked : List ℕ
+    clocked = overwrite t 0 (octetsOf 8 now)
+
     abbrev after : List ℕ
     after = withEntry v t p now e
 
-    clocked-octets : Octets (overwrite t 0 (octetsOf 8 now))
+    clocked-octets : Octets clocked
     clocked-octets = octets-overwrite t 0 (octetsOf 8 now) (s .octets) (octets-octetsOf 8 now)
 
     octets-after : Octets after
-    octets-after =
-        octets-overwrite (overwrite t 0 (octetsOf 8 now)) (placeAt v p) (entryBytes v e) clocked-octets (octets-entryBytes v e typed)
+    octets-after = octets-overwrite clocked (placeAt v p) (entryBytes v e) clocked-octets (octets-entryBytes v e typed)
+
+    facts-before : SoundFacts v t (placesIn v t)
+    facts-before = table-facts v t (placesIn v t) (s .sound)
 
     place-after : (q : ℕ) → q < placesIn v t → SoundPlace v now after (placeAt v q)
     place-after q h = by (true-or-false (q =ᵇ p))
@@ -72,22 +80,27 @@ module _ (v : Version) where
             rw (eqb-true q p same)
             (written-sound now e after (placeAt v p) (place-same v t p now e inside) (entry-same v t p now e inside typed) new)
         by (inr differs) =
-            place-agree (headerClock t) now after (placeAt v q) t (placeAt v q) (place-other v t p now e inside q (eqb-false q p differs)) later
-            (table-facts v t (placesIn v t) (s .sound) .places q h)
+            let other = place-other v t p now e inside q (eqb-false q p differs) in
+            place-agree (headerClock t) now after (placeAt v q) t (placeAt v q) other later (facts-before .places q h)
 
     facts-after : SoundFacts v after (placesIn v after)
     facts-after =
         let clock : headerClock after ≡ now = clock-after v t p now e inside (omega arith) in
+        let kept = header-after v t p now e inside in
         record {
           clock = rw clock small;
-          header = λ i h. header-after v t p now e inside i (omega arith) ∙ table-facts v t (placesIn v t) (s .sound) .header i h;
-          mark = header-after v t p now e inside 54 (omega arith) ∙ table-facts v t (placesIn v t) (s .sound) .mark;
-          header-end = header-after v t p now e inside 55 (omega arith) ∙ table-facts v t (placesIn v t) (s .sound) .header-end;
+          header = λ i h. kept i (omega arith) ∙ facts-before .header i h;
+          mark = kept headerZeros (omega arith) ∙ facts-before .mark;
+          header-end = kept (headerZeros + 1) (omega arith) ∙ facts-before .header-end;
           places = λ q h. rw clock (place-after q (rw (placesIn-after v t p now e inside) at h));
         }
 
     bytes-after : SoundBytes v after
-    bytes-after = record { octets = octets-after; legal = rw (length-after v t p now e inside) (s .legal); sound = facts-table v after (placesIn v after) facts-after }
+    bytes-after = record {
+      octets = octets-after;
+      legal = rw (length-after v t p now e inside) (s .legal);
+      sound = facts-table v after (placesIn v after) facts-after;
+    }
 
   -- a pass that writes a free entry or a sound one leaves the bytes sound
   pub sound-after :

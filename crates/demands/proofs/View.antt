@@ -16,7 +16,9 @@ use Rattle.entry.specs.Viewed.{viewed, stored}
 use Rattle.filter.specs.Call.{placesIn, tableOf, tableAfter}
 use Rattle.demands.proofs.Frame.{placesIn-after, clock-after, entry-same, entry-other}
 
-module _ (v : Version) (t : List ℕ) (p now : ℕ) (e : rows.Entry connections) (inside : p < placesIn v t) (small : now < 2 ^ 48) (typed : Typed v (stored e)) where
+module _
+    (v : Version) (t : List ℕ) (p now : ℕ) (e : rows.Entry connections) (inside : p < placesIn v t) (small : now < 2 ^ 48)
+    (typed : Typed v (stored e)) where
   abbrev after : List ℕ
   after = tableAfter v t (Passed p now e)
 

@@ -8,6 +8,7 @@ use Rattle.serial.specs.Ring.{wrap}
 use Rattle.octets.specs.Digits.{number, digits}
 use Rattle.octets.specs.BigEndian.{bigEndian, octetsOf}
 use Rattle.octets.specs.Overwrite.{overwrite}
+use Rattle.address.specs.declared.Version.the-variants.{V4}
 use Rattle.packet.specs.Sum.{onesPlus, onesSum}
 use Rattle.packet.specs.Read.{readIPv4, ipv4Header, rows9to10}
 use Rattle.rows.specs.Connections.{connections}
@@ -15,7 +16,6 @@ use Rattle.honest.specs.Machine.{refused, Machine}
 use Rattle.honest.specs.Rules.{Event, Pair}
 use Rattle.honest.specs.Honest.{Legal, NeverBlocked}
 use Rattle.honest.specs.Demand2.{fresh}
-use Rattle.address.specs.declared.Version.the-variants.{V4}
 use Rattle.honest.specs.Instance.{ViewCall, viewMachine}
 use Rattle.honest.specs.Carries.{Carries, readings, summaryOf}
 use Rattle.honest.specs.Witness.{ends, witness}
