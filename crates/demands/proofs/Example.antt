@@ -27,50 +27,42 @@ use Rattle.honest.specs.Marked as marked
 use Rattle.demands.specs.Demands.{freshBytes}
 use Rattle.demands.specs.Packets.{fieldOctets, octetsIn, checksum, payloadOf, ipHeader, tcpHeader, pseudoHeader, packetOf}
 
-abbrev packet1 : List ℕ
-packet1 =
-    -- IPv4
+-- 20 bytes of an IPv4 header, from 10.0.0.x to 10.0.0.y, before 20 of TCP's
+abbrev ipv4 : ℕ → ℕ → List ℕ → List ℕ
+ipv4 x y tcp =
     69 ∷ 0 ∷ 0 ∷ 40
     ∷ 0 ∷ 0 ∷ 0 ∷ 0
     ∷ 64 ∷ 6 ∷ 102 ∷ 206
-    ∷ 10 ∷ 0 ∷ 0 ∷ 1
-    ∷ 10 ∷ 0 ∷ 0 ∷ 2
-    -- TCP
-    ∷ 4 ∷ 0 ∷ 0 ∷ 80
+    ∷ 10 ∷ 0 ∷ 0 ∷ x
+    ∷ 10 ∷ 0 ∷ 0 ∷ y
+    ∷ tcp
+
+abbrev packet1 : List ℕ
+packet1 =
+    ipv4 1 2
+    (4 ∷ 0 ∷ 0 ∷ 80
     ∷ 0 ∷ 0 ∷ 0 ∷ 100
     ∷ 0 ∷ 0 ∷ 0 ∷ 0
     ∷ 80 ∷ 2 ∷ 3 ∷ 232
-    ∷ 147 ∷ 68 ∷ 0 ∷ 0 ∷ []
+    ∷ 147 ∷ 68 ∷ 0 ∷ 0 ∷ [])
 
 abbrev packet2 : List ℕ
 packet2 =
-    -- IPv4
-    69 ∷ 0 ∷ 0 ∷ 40
-    ∷ 0 ∷ 0 ∷ 0 ∷ 0
-    ∷ 64 ∷ 6 ∷ 102 ∷ 206
-    ∷ 10 ∷ 0 ∷ 0 ∷ 2
-    ∷ 10 ∷ 0 ∷ 0 ∷ 1
-    -- TCP
-    ∷ 0 ∷ 80 ∷ 4 ∷ 0
+    ipv4 2 1
+    (0 ∷ 80 ∷ 4 ∷ 0
     ∷ 0 ∷ 0 ∷ 1 ∷ 244
     ∷ 0 ∷ 0 ∷ 0 ∷ 101
     ∷ 80 ∷ 18 ∷ 7 ∷ 208
-    ∷ 141 ∷ 87 ∷ 0 ∷ 0 ∷ []
+    ∷ 141 ∷ 87 ∷ 0 ∷ 0 ∷ [])
 
 abbrev packet3 : List ℕ
 packet3 =
-    -- IPv4
-    69 ∷ 0 ∷ 0 ∷ 40
-    ∷ 0 ∷ 0 ∷ 0 ∷ 0
-    ∷ 64 ∷ 6 ∷ 102 ∷ 206
-    ∷ 10 ∷ 0 ∷ 0 ∷ 1
-    ∷ 10 ∷ 0 ∷ 0 ∷ 2
-    -- TCP
-    ∷ 4 ∷ 0 ∷ 0 ∷ 80
+    ipv4 1 2
+    (4 ∷ 0 ∷ 0 ∷ 80
     ∷ 0 ∷ 0 ∷ 0 ∷ 101
     ∷ 0 ∷ 0 ∷ 1 ∷ 246
     ∷ 80 ∷ 16 ∷ 3 ∷ 232
-    ∷ 145 ∷ 63 ∷ 0 ∷ 0 ∷ []
+    ∷ 145 ∷ 63 ∷ 0 ∷ 0 ∷ [])
 
 abbrev after1 : List ℕ
 after1 = tableAfter V4 (freshBytes V4 2) (ipv4Outcome 0 0 (freshBytes V4 2) packet1)
