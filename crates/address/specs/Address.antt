@@ -9,7 +9,7 @@ use Rattle.address.specs.declared.Address.{Address}
 use Rattle.address.specs.declared.Endpoint.{Endpoint}
 use Rattle.address.specs.declared.Flow.{Flow}
 
--- octets of an address
+-- octets of an address (document 01, "The table": 4; document 02, item 14: 16)
 abbrev pub addressSize : Version → ℕ
 addressSize V4 = 4
 addressSize V6 = 16

@@ -12,7 +12,7 @@ use Rattle.octets.proofs.BigEndian.{octetsOf-bigEndian}
 use Rattle.address.specs.declared.Version.{Version}
 use Rattle.entry.specs.Layout.{headerSize, entrySize, placeAt}
 use Rattle.entry.proofs.Places.{first-place, next-place, place-inside, header-first}
-use Rattle.table.specs.Table.{clockAt, headerZerosAt, headerZeros, markAt, lastAt, headerMark, headerClock, soundAt, soundHeader, soundTable}
+use Rattle.table.specs.Table.{clockAt, headerZerosAt, headerZeros, versionByteAt, lastAt, versionByte, headerClock, soundAt, soundHeader, soundTable}
 use Rattle.table.proofs.Places.{each-of-all}
 use Rattle.table.proofs.Facts.{table-facts}
 use Rattle.table.proofs.RoundTrip.{sound-re-encodes}
@@ -63,14 +63,14 @@ module _ (v : Version) (t : List ℕ) (s : SoundBytes v t) where
   unfolding headerClock
   clock-part = octetsOf-bigEndian 8 t clockAt (omega (arith, header-inside)) (s .octets)
 
-  -- the version's mark, the last byte of the header, and the entries
-  mark-part : headerMark v ∷ 0 ∷ entriesBytes v (tableOf v t) 0 (placesIn v t) ≡ drop markAt t
-  mark-part =
+  -- the byte of the IP version, the last byte of the header, and the entries
+  version-part : versionByte v ∷ 0 ∷ entriesBytes v (tableOf v t) 0 (placesIn v t) ≡ drop versionByteAt t
+  version-part =
       let f = table-facts v t (placesIn v t) (s .sound) in
       let entries = entries-part (placesIn v t) 0 (omega arith) ∙ ap (λ at. drop at t) (first-place v) in
-      (λ i. sym (f .mark) i ∷ sym (f .header-end) i ∷ entries i)
-      ∙ ap (λ l. getD t markAt 0 ∷ l) (octet-part lastAt t (omega (arith, header-inside)))
-      ∙ octet-part markAt t (omega (arith, header-inside))
+      (λ i. sym (f .version) i ∷ sym (f .header-end) i ∷ entries i)
+      ∙ ap (λ l. getD t versionByteAt 0 ∷ l) (octet-part lastAt t (omega (arith, header-inside)))
+      ∙ octet-part versionByteAt t (omega (arith, header-inside))
 
   -- the table's bytes are those of the table that they are
   pub sound-bytes : t ≡ tableBytes v (tableOf v t)
@@ -79,4 +79,4 @@ module _ (v : Version) (t : List ℕ) (s : SoundBytes v t) where
       let zeros = zeros-part headerZeros headerZerosAt t (omega (arith, header-inside)) (f .header) in
       sym (next-part 8 clockAt t)
       ∙ (λ i. sym clock-part i ++ sym (next-part headerZeros headerZerosAt t) i)
-      ∙ (λ i. octetsOf 8 (headerClock t) ++ (sym zeros i ++ sym mark-part i))
+      ∙ (λ i. octetsOf 8 (headerClock t) ++ (sym zeros i ++ sym version-part i))

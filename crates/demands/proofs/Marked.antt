@@ -14,7 +14,7 @@ use Rattle.octets.specs.Digits.{number, digits}
 use Rattle.octets.specs.BigEndian.{bigEndian, octetsOf}
 use Rattle.address.specs.declared.Version.the-variants.{V4}
 use Rattle.packet.specs.Sum.{onesPlus, onesSum}
-use Rattle.packet.specs.Read.{readIPv4, ipv4Header, rows9to10}
+use Rattle.packet.specs.Read.{readIPv4, rows6to8, ipv4Header, row10, rows9to10}
 use Rattle.connection.specs.Sound.{soundFins, soundEnd, soundUnanswered, soundConnection}
 use Rattle.rows.specs.Rows as rows
 use Rattle.rows.specs.Rows.{Ask, View, Passed, filter, answerOf, placeBy}
@@ -82,7 +82,7 @@ IsRead l = map (λ (c : Case). readingOf readIPv4 (bytesCall (c .call))) l ≡ m
 
 -- by computation, C11's 65,535 bytes among them
 all-read : Read packet1 × Read packet2 × IsRead markedSet
-unfolding if_then_else_ wrap number digits bigEndian octetsOf onesPlus onesSum ipv4Header rows9to10 readingOf fieldOctets octetsIn checksum payloadOf ipHeader tcpHeader pseudoHeader packetOf
+unfolding if_then_else_ wrap number digits bigEndian octetsOf onesPlus onesSum rows6to8 ipv4Header row10 rows9to10 readingOf fieldOctets octetsIn checksum payloadOf ipHeader tcpHeader pseudoHeader packetOf
 all-read = (refl, refl, refl)
 
 -- The tables

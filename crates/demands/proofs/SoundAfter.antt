@@ -90,7 +90,7 @@ module _ (v : Version) where
         record {
           clock = rw clock small;
           header = λ i h. kept i (omega arith) ∙ facts-before .header i h;
-          mark = kept headerZeros (omega arith) ∙ facts-before .mark;
+          version = kept headerZeros (omega arith) ∙ facts-before .version;
           header-end = kept (headerZeros + 1) (omega arith) ∙ facts-before .header-end;
           places = λ q h. rw clock (place-after q (rw (placesIn-after v t p now e inside) at h));
         }

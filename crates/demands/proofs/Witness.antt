@@ -10,7 +10,7 @@ use Rattle.octets.specs.BigEndian.{bigEndian, octetsOf}
 use Rattle.octets.specs.Overwrite.{overwrite}
 use Rattle.address.specs.declared.Version.the-variants.{V4}
 use Rattle.packet.specs.Sum.{onesPlus, onesSum}
-use Rattle.packet.specs.Read.{readIPv4, ipv4Header, rows9to10}
+use Rattle.packet.specs.Read.{readIPv4, rows6to8, ipv4Header, row10, rows9to10}
 use Rattle.rows.specs.Connections.{connections}
 use Rattle.honest.specs.Machine.{refused, Machine}
 use Rattle.honest.specs.Rules.{Event, Pair}
@@ -54,7 +54,7 @@ all-read :
     (readings ipv4Machine madeWitness ≡ readings viewed witness)
     × (readingOf readIPv4 wrongSum ≡ refused 6)
     × (readingOf readIPv4 fragment ≡ refused 7)
-unfolding if_then_else_ wrap number digits bigEndian octetsOf overwrite onesPlus onesSum ipv4Header rows9to10 readingOf fieldOctets octetsIn checksum payloadOf ipHeader tcpHeader pseudoHeader packetOf
+unfolding if_then_else_ wrap number digits bigEndian octetsOf overwrite onesPlus onesSum rows6to8 ipv4Header row10 rows9to10 readingOf fieldOctets octetsIn checksum payloadOf ipHeader tcpHeader pseudoHeader packetOf
 all-read = (refl, refl, refl)
 
 -- the two packets that are malformed

@@ -12,7 +12,7 @@ use Rattle.packet.specs.Reader.{ReaderOf}
 use Rattle.packet.specs.declared.PacketRead.{PacketRead}
 use Rattle.rows.specs.Rows.{nowhere}
 use Rattle.entry.specs.Layout.{entrySize, placeAt}
-use Rattle.table.specs.Table.{markAt, headerMark}
+use Rattle.table.specs.Table.{headerZerosAt, versionByteAt, versionByte}
 use Rattle.filter.specs.Call.{Outcome, placesIn, outcomeOf, replyOf, tableAfter}
 use Rattle.honest.specs.Rules.{Event, Pair}
 use Rattle.honest.specs.Honest.{Legal, NeverBlocked, Demand3}
@@ -24,7 +24,7 @@ use Rattle.demands.specs.Encoded.{tableBytes}
 module _ (v : Version) where
   -- what is left alone by a pass at a place: all but the header clock and that entry
   abbrev pub Elsewhere : ℕ → ℕ → Type 0
-  Elsewhere p i = (8 ≤ i) × ((i < placeAt v p) ⊎ (placeAt v p + entrySize v ≤ i))
+  Elsewhere p i = (headerZerosAt ≤ i) × ((i < placeAt v p) ⊎ (placeAt v p + entrySize v ≤ i))
 
   pub record Demand1For (t : List ℕ) (o : Outcome) : Type 0 where
     -- a pass gives one of the table's places, 0 to n−1, and changes only the header clock and that entry
@@ -36,9 +36,9 @@ module _ (v : Version) where
     pub blocked-place : (replyOf o .answer ≡ 0 → ⊥) → replyOf o .place ≡ nowhere
     pub blocked-keeps : (replyOf o .answer ≡ 0 → ⊥) → tableAfter v t o ≡ t
 
-  -- a fresh table with n places: zeros but for the version's mark, which is 0 in an IPv4 table
+  -- a fresh table with n places: zeros but for the byte of its IP version, which is 0 in an IPv4 table
   abbrev pub freshBytes : ℕ → List ℕ
-  freshBytes n = overwrite (replicate (placeAt v n) 0) markAt (headerMark v ∷ [])
+  freshBytes n = overwrite (replicate (placeAt v n) 0) versionByteAt (versionByte v ∷ [])
 
   module _ (read : List ℕ → PacketRead) where
     -- Demand 1: any bytes, side, clock and table get one of the numbered answers, and only a pass changes the table. Nothing is asked of them
@@ -63,6 +63,10 @@ module _ (v : Version) where
 
     abbrev pub Demand3FromSound : Type 0
     Demand3FromSound = Demand3 (bytesMachine v read) (SoundBytes v)
+
+-- all zeros, as document 01 has a fresh table
+abbrev pub FreshIsZeros : Type 0
+FreshIsZeros = (n : ℕ) → freshBytes V4 n ≡ replicate (placeAt V4 n) 0
 
 -- all of them
 pub record Demands (v : Version) (read : List ℕ → PacketRead) : Type 0 where

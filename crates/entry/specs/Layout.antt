@@ -1,4 +1,4 @@
--- The table in bytes (document 01, "The table"): a header of 64 bytes, then entries of 64, or of 96 in an IPv6 table.
+-- The table in bytes (document 01, "The table"): a header of 64 bytes, then entries of 64, or of 96 in an IPv6 table (document 02, item 14).
 use Prim.Native.Nat.{ℕ, _+_, _*_}
 use mathlib.Core.List.{List, [], _∷_, _++_}
 use lib.ListN.{getD, replicate}

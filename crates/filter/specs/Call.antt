@@ -46,7 +46,7 @@ module _ {A : Type 0} (refuse : ℕ → A) where
       if not (side ≤ᵇ 1) then refuse 1
       -- 2: clock is 2^48 ms or more
       else if 2 ^ 48 ≤ᵇ clock then refuse 2
-      -- 3: table length
+      -- 3: table length is not 64·(n+1), in an IPv6 table 64 + 96·n, with n from 1 to 512
       else if not legal then refuse 3
       -- 4: table is unsound
       else if not sound then refuse 4
@@ -74,7 +74,7 @@ ipv4Outcome side clock t packet = outcomeOf V4 side clock t (readIPv4 packet)
 
 -- What a call gives and leaves
 
--- a place has its own number
+-- the whole table is viewed, so each place is its own number
 abbrev pub replyOf : Outcome → Reply
 replyOf o = record { answer = answerOf connections o; place = placeBy (λ p. p) o }
 

@@ -52,9 +52,9 @@ pub struct Reply {
 fn free_entry() -> Entry
     ensures { λ r. ⌜ r ≡ stored (freeEntry connections) ⌝ }
 {
-    let nowhere = Address { high: 0, low: 0 };
+    let no_address = Address { high: 0, low: 0 };
     let nobody = Endpoint {
-        address: nowhere,
+        address: no_address,
         port: 0,
     };
     let zero = End {

@@ -15,12 +15,10 @@ use Rattle.address.specs.declared.Version.{Version}
 use Rattle.address.specs.declared.Version.the-variants.{V4}
 use Rattle.address.proofs.Laws.{addressAt-agree}
 use Rattle.packet.specs.Header.{headerLength, totalLength}
-use Rattle.packet.specs.Read.{ipv4Addresses, ipv4Header, rows9to10, onHeader}
-use Rattle.packet.specs.Tails.{rows6to8}
+use Rattle.packet.specs.Read.{ipv4Addresses, ipv4Header, rows9to10, onHeader, rows6to8}
 use Rattle.packet.specs.Ignored.{PastTotalIgnored}
 use Rattle.packet.specs.declared.IpRead.{IpRead}
-use Rattle.packet.specs.declared.IpRead.the-variants.{Bad, Carries}
-use Rattle.packet.proofs.Read.{ipv4Header≡row5-then-tail}
+use Rattle.packet.specs.declared.IpRead.the-variants.{BadHeader, CarriesTcp}
 use Rattle.packet.proofs.Readable.{ipv4-carries}
 
 module _ (p past : List ℕ) where
@@ -58,10 +56,10 @@ module _ (p past : List ℕ) where
 
     -- what the IP header carries ends in the packet
     onHeader-unchanged :
-        (r : IpRead) → ((h t : ℕ) → r ≡ Carries h t → t ≤ length p) →
+        (r : IpRead) → ((h t : ℕ) → r ≡ CarriesTcp h t → t ≤ length p) →
         onHeader v addresses (p ++ past) r ≡ onHeader v addresses p r
-    onHeader-unchanged (Bad cause) ends = refl
-    onHeader-unchanged (Carries h t) ends = rows9to10-unchanged h t (ends h t refl)
+    onHeader-unchanged (BadHeader cause) ends = refl
+    onHeader-unchanged (CarriesTcp h t) ends = rows9to10-unchanged h t (ends h t refl)
 
   -- Rows 5 to 8, of IPv4
 
@@ -71,16 +69,15 @@ module _ (p past : List ℕ) where
       rw (take-append-le h p past inside, bigEndian-unchanged 2 6 (omega arith), octet-unchanged 9 (omega arith))
 
   ipv4Header-unchanged : 20 ≤ length p → totalLength p ≤ length p → ipv4Header (p ++ past) ≡ ipv4Header p
+  unfolding ipv4Header
   ipv4Header-unchanged whole given =
-      ipv4Header≡row5-then-tail (p ++ past)
-      ∙ rw (octet-unchanged 0 (omega arith), bigEndian-unchanged 2 2 (omega arith))
+      rw (octet-unchanged 0 (omega arith), bigEndian-unchanged 2 2 (omega arith))
       (if-else-past _ (length-test-unchanged 20 whole) λ e.
       if-else-past _ refl λ e.
       if-else-past _ refl λ e.
       if-else-past _ refl λ room.
       if-else-past _ (length-test-unchanged (totalLength p) given) λ e.
       rows6to8-unchanged (headerLength p) (totalLength p) whole (omega (arith, ltb-false (totalLength p) (headerLength p) room)))
-      ∙ sym (ipv4Header≡row5-then-tail p)
 
 pub past-total-ignored : PastTotalIgnored
 past-total-ignored p past whole given =

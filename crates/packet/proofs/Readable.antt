@@ -18,18 +18,16 @@ use Rattle.segment.specs.Flags.{fin, syn, rst, ack, control}
 use Rattle.segment.specs.Readable.{Readable}
 use Rattle.segment.specs.declared.Segment.{Segment}
 use Rattle.packet.specs.Header.{controlBits, headerLength, totalLength}
-use Rattle.packet.specs.Read.{segmentOf, payload, ipv4Addresses, ipv4Header, rows9to10, onHeader, readIPv4}
+use Rattle.packet.specs.Read.{rows6to8, ipv4Header, ipv4Addresses, payload, segmentOf, row10, onFlags, rows9to10, onHeader, readIPv4}
 use Rattle.packet.specs.Reader.{ReaderOf}
-use Rattle.packet.specs.Tails.{row10, rows6to8}
 use Rattle.packet.specs.declared.Cause.{Cause}
 use Rattle.packet.specs.declared.FlagCheck.{FlagCheck}
-use Rattle.packet.specs.declared.FlagCheck.the-variants.{Bad, Fine}
+use Rattle.packet.specs.declared.FlagCheck.the-variants.{BadFlags, Fine}
 use Rattle.packet.specs.declared.IpRead.{IpRead}
-use Rattle.packet.specs.declared.IpRead.the-variants as ip
+use Rattle.packet.specs.declared.IpRead.the-variants.{BadHeader, CarriesTcp}
 use Rattle.packet.specs.declared.PacketRead.{PacketRead}
 use Rattle.packet.specs.declared.PacketRead.the-variants.{Refused, Tcp}
 use Rattle.packet.proofs.Flags.{bit-clear}
-use Rattle.packet.proofs.Read.{ipv4Header≡row5-then-tail, rows9to10≡row9-then-row10, afterRow10}
 
 -- What a list gives that took none of its lines
 
@@ -40,39 +38,39 @@ unfolding if_then_else_
 past-refusal true cause e = false-true cc
 past-refusal false cause e = e
 
-past-bad : {t : Bool} {check : FlagCheck} (cause : Cause) → (if t then Bad cause else check) ≡ Fine → (t ≡ false) × (check ≡ Fine)
+past-bad : {t : Bool} {check : FlagCheck} (cause : Cause) → (if t then BadFlags cause else check) ≡ Fine → (t ≡ false) × (check ≡ Fine)
 unfolding if_then_else_
 past-bad {t = true} cause e = false-true cc
 past-bad {t = false} cause e = (refl, e)
 
 past-check :
-    {f : Flow} {g : Segment} (read : PacketRead) (check : FlagCheck) → afterRow10 read check ≡ Tcp f g →
+    {f : Flow} {g : Segment} (read : PacketRead) (check : FlagCheck) → onFlags check read ≡ Tcp f g →
     (check ≡ Fine) × (read ≡ Tcp f g)
-past-check read (Bad cause) e = false-true cc
+past-check read (BadFlags cause) e = false-true cc
 past-check read Fine e = (refl, e)
 
 past-bad-header :
-    {h t : ℕ} {rest : IpRead} (b : Bool) (cause : Cause) → (if b then ip.Bad cause else rest) ≡ ip.Carries h t →
-    rest ≡ ip.Carries h t
+    {h t : ℕ} {rest : IpRead} (b : Bool) (cause : Cause) → (if b then BadHeader cause else rest) ≡ CarriesTcp h t →
+    rest ≡ CarriesTcp h t
 unfolding if_then_else_
 past-bad-header true cause e = false-true cc
 past-bad-header false cause e = e
 
-carries-both : (h t j u : ℕ) → ip.Carries h t ≡ ip.Carries j u → (h ≡ j) × (t ≡ u)
+carries-both : (h t j u : ℕ) → CarriesTcp h t ≡ CarriesTcp j u → (h ≡ j) × (t ≡ u)
 carries-both h t j u e = (cc, cc)
 
 -- The IPv4 header
 
 -- where TCP's header begins, and where the packet ends
-pub ipv4-carries : (p : List ℕ) (h t : ℕ) → ipv4Header p ≡ ip.Carries h t → (headerLength p ≡ h) × (totalLength p ≡ t)
-unfolding rows6to8
+pub ipv4-carries : (p : List ℕ) (h t : ℕ) → ipv4Header p ≡ CarriesTcp h t → (headerLength p ≡ h) × (totalLength p ≡ t)
+unfolding rows6to8 ipv4Header
 ipv4-carries p h t e =
-    let past-1 = past-bad-header _ _ (sym (ipv4Header≡row5-then-tail p) ∙ e) in
+    let past-1 = past-bad-header _ _ e in
     let past-row5 = past-bad-header _ _ (past-bad-header _ _ (past-bad-header _ _ (past-bad-header _ _ past-1))) in
     carries-both _ _ h t (past-bad-header _ _ (past-bad-header _ _ (past-bad-header _ _ past-row5)))
 
 -- at most 65,535 octets follow it
-ipv4-span : (p : List ℕ) (h t : ℕ) → Octets p → ipv4Header p ≡ ip.Carries h t → t - h < 2 ^ 16
+ipv4-span : (p : List ℕ) (h t : ℕ) → Octets p → ipv4Header p ≡ CarriesTcp h t → t - h < 2 ^ 16
 ipv4-span p h t octets e = omega (arith, ipv4-carries p h t e .1, bigEndian<256^n 2 p 2 octets)
 
 -- The flags
@@ -142,7 +140,7 @@ segmentOf-readable p h t octets small fine =
 record Stands (v : Version) (addresses : ℕ) (p : List ℕ) (r : IpRead) (k : Flow) (g : Segment) : Type 0 where
   h : ℕ
   t : ℕ
-  carries : r ≡ ip.Carries h t
+  carries : r ≡ CarriesTcp h t
   fine : row10 (controlBits p h) (payload p h t) ≡ Fine
   flow : k ≡ flowAt v p addresses h
   segment : g ≡ segmentOf p h t
@@ -151,12 +149,12 @@ module _ (v : Version) (addresses : ℕ) (p : List ℕ) (k : Flow) (g : Segment)
   past-rows9to10 :
       (h t : ℕ) → rows9to10 v addresses p h t ≡ Tcp k g →
       (row10 (controlBits p h) (payload p h t) ≡ Fine) × (Tcp (flowAt v p addresses h) (segmentOf p h t) ≡ Tcp k g)
-  past-rows9to10 h t e =
-      past-check _ _ (past-refusal _ _ (past-refusal _ _ (past-refusal _ _ (sym (rows9to10≡row9-then-row10 v addresses p h t) ∙ e))))
+  unfolding rows9to10
+  past-rows9to10 h t e = past-check _ _ (past-refusal _ _ (past-refusal _ _ (past-refusal _ _ e)))
 
   stands : (r : IpRead) → onHeader v addresses p r ≡ Tcp k g → Stands v addresses p r k g
-  stands (ip.Bad cause) e = false-true cc
-  stands (ip.Carries h t) e =
+  stands (BadHeader cause) e = false-true cc
+  stands (CarriesTcp h t) e =
       let both = past-rows9to10 h t e in
       let same = both .1 in
       record { h = h; t = t; carries = refl; fine = both .0; flow = cc; segment = cc }
@@ -164,7 +162,7 @@ module _ (v : Version) (addresses : ℕ) (p : List ℕ) (k : Flow) (g : Segment)
 -- a version's reader by its rows 5 to 8, if they let at most 65,535 octets follow the IP header
 reader-of :
     (v : Version) (addresses : ℕ) (header : List ℕ → IpRead) →
-    ((p : List ℕ) (h t : ℕ) → Octets p → header p ≡ ip.Carries h t → t - h < 2 ^ 16) →
+    ((p : List ℕ) (h t : ℕ) → Octets p → header p ≡ CarriesTcp h t → t - h < 2 ^ 16) →
     ReaderOf v (λ p. onHeader v addresses p (header p))
 reader-of v addresses header span = record {
   flow = λ p k g octets e.

@@ -15,31 +15,38 @@ use Rattle.packet.specs.Header.{version, headerLength, totalLength, more
 use Rattle.packet.specs.Sum.{onesSum}
 use Rattle.packet.specs.declared.Cause.{Cause}
 use Rattle.packet.specs.declared.Cause.the-variants.{Short, OtherVersion, HeaderLength, TotalBelowHeader, TotalAboveGiven, HeaderSum, Fragment, Protocol, TcpShort, OffsetBelowFive, OffsetPastTotal, SynFinRst, NoSynAckRst, SynPayload}
+use Rattle.packet.specs.declared.FlagCheck.{FlagCheck}
+use Rattle.packet.specs.declared.FlagCheck.the-variants.{BadFlags, Fine}
 use Rattle.packet.specs.declared.IpRead.{IpRead}
-use Rattle.packet.specs.declared.IpRead.the-variants.{Bad, Carries}
+use Rattle.packet.specs.declared.IpRead.the-variants.{BadHeader, CarriesTcp}
 use Rattle.packet.specs.declared.PacketRead.{PacketRead}
 use Rattle.packet.specs.declared.PacketRead.the-variants.{Refused, Tcp}
 
 -- Each list: the first line that applies wins
 
 -- IPv4: rows 5 to 8, or where TCP's header begins and where the packet ends
+
+unfoldable pub rows6to8 : List ℕ → ℕ → ℕ → IpRead
+rows6to8 p h t =
+    -- 6: the header's ones' complement 16-bit sum is not ffff
+    if onesSum (take h p) ≠ᵇ 0xffff then BadHeader HeaderSum
+    -- 7: more-fragments set or fragment offset not 0
+    else if (moreFragments p =ᵇ 1) || (fragmentOffset p ≠ᵇ 0) then BadHeader Fragment
+    -- 8: protocol is not 6
+    else if protocol p ≠ᵇ 6 then BadHeader Protocol
+    else CarriesTcp h t
+
 unfoldable pub ipv4Header : List ℕ → IpRead
 ipv4Header p =
     let h : ℕ = headerLength p in
     let t : ℕ = totalLength p in
     -- 5: under 20 bytes; version not 4; header length under 20; total length below header length or above the bytes given
-    if length p <ᵇ 20 then Bad Short
-    else if version p ≠ᵇ 4 then Bad OtherVersion
-    else if h <ᵇ 20 then Bad HeaderLength
-    else if t <ᵇ h then Bad TotalBelowHeader
-    else if length p <ᵇ t then Bad TotalAboveGiven
-    -- 6: the header's ones' complement 16-bit sum is not ffff
-    else if onesSum (take h p) ≠ᵇ 0xffff then Bad HeaderSum
-    -- 7: more-fragments set or fragment offset not 0
-    else if (moreFragments p =ᵇ 1) || (fragmentOffset p ≠ᵇ 0) then Bad Fragment
-    -- 8: protocol is not 6
-    else if protocol p ≠ᵇ 6 then Bad Protocol
-    else Carries h t
+    if length p <ᵇ 20 then BadHeader Short
+    else if version p ≠ᵇ 4 then BadHeader OtherVersion
+    else if h <ᵇ 20 then BadHeader HeaderLength
+    else if t <ᵇ h then BadHeader TotalBelowHeader
+    else if length p <ᵇ t then BadHeader TotalAboveGiven
+    else rows6to8 p h t
 
 -- where its source address begins; the destination's follows it
 abbrev pub ipv4Addresses : ℕ
@@ -60,34 +67,41 @@ segmentOf p h t = record {
   octets = record { 0 = payload p h t + syn (controlBits p h) + fin (controlBits p h) };
 }
 
--- rows 9 and 10, or the flow, by where the version has its addresses, and the segment; f is the TCP flags
+-- 10, of the flags f and n payload octets
+unfoldable pub row10 : ℕ → ℕ → FlagCheck
+row10 f n =
+    -- 10: SYN with FIN or RST; none of SYN, ACK, RST; SYN with payload
+    if (syn f =ᵇ 1) && ((fin f =ᵇ 1) || (rst f =ᵇ 1)) then BadFlags SynFinRst
+    else if not ((syn f =ᵇ 1) || ((ack f =ᵇ 1) || (rst f =ᵇ 1))) then BadFlags NoSynAckRst
+    else if (syn f =ᵇ 1) && (n ≠ᵇ 0) then BadFlags SynPayload
+    else Fine
+
+abbrev pub onFlags : FlagCheck → PacketRead → PacketRead
+onFlags (BadFlags cause) read = Refused cause
+onFlags Fine read = read
+
+-- 9 and 10, or the flow, by where the version has its addresses, and the segment
 unfoldable pub rows9to10 : Version → ℕ → List ℕ → ℕ → ℕ → PacketRead
 rows9to10 v addresses p h t =
-    let f : ℕ = controlBits p h in
     -- 9: under 20 bytes follow the IP header within total length; TCP data offset under 5 words or past total length
     if t - h <ᵇ 20 then Refused TcpShort
     else if dataOffset p h <ᵇ 20 then Refused OffsetBelowFive
     else if t - h <ᵇ dataOffset p h then Refused OffsetPastTotal
-    -- 10: SYN with FIN or RST; none of SYN, ACK, RST; SYN with payload
-    else if (syn f =ᵇ 1) && ((fin f =ᵇ 1) || (rst f =ᵇ 1)) then Refused SynFinRst
-    else if not ((syn f =ᵇ 1) || ((ack f =ᵇ 1) || (rst f =ᵇ 1))) then Refused NoSynAckRst
-    else if (syn f =ᵇ 1) && (payload p h t ≠ᵇ 0) then Refused SynPayload
-    -- otherwise
-    else Tcp (flowAt v p addresses h) (segmentOf p h t)
+    else onFlags (row10 (controlBits p h) (payload p h t)) (Tcp (flowAt v p addresses h) (segmentOf p h t))
 
 -- The whole: what the IP header refuses, and then what TCP's does
 
 abbrev pub onHeader : Version → ℕ → List ℕ → IpRead → PacketRead
-onHeader v addresses p (Bad cause) = Refused cause
-onHeader v addresses p (Carries h t) = rows9to10 v addresses p h t
+onHeader v addresses p (BadHeader cause) = Refused cause
+onHeader v addresses p (CarriesTcp h t) = rows9to10 v addresses p h t
 
 abbrev pub readIPv4 : List ℕ → PacketRead
 readIPv4 p = onHeader V4 ipv4Addresses p (ipv4Header p)
 
 -- what is carried lies behind the addresses and in the packet, with at most 65,535 octets after the IP header
 abbrev pub Inside : Version → ℕ → List ℕ → IpRead → Type 0
-Inside v addresses p (Bad cause) = Unit {0}
-Inside v addresses p (Carries h t) =
+Inside v addresses p (BadHeader cause) = Unit {0}
+Inside v addresses p (CarriesTcp h t) =
     (addresses + addressSize v + addressSize v ≤ h) × (h ≤ t) × (t ≤ length p) × (t - h < 2 ^ 16)
 
 -- document 01's number of each cause

@@ -7,8 +7,8 @@ ghost use Rattle.address.specs.Address.{addressSize};
 ghost use Rattle.segment.specs.Flags.{control};
 ghost use Rattle.packet.specs.Header.{dataOffset};
 ghost use Rattle.packet.specs.Sum.{onesSum, wordSum};
-ghost use Rattle.packet.specs.Read.{segmentOf, rows9to10, ipv4Addresses, ipv4Header, readIPv4, Inside, causeNumber, refusalNumber};
-ghost use Rattle.packet.specs.Tails.{row10, rows6to8};
+ghost use Rattle.packet.specs.Read.{rows6to8, ipv4Header, ipv4Addresses, segmentOf, row10, rows9to10, readIPv4, Inside};
+ghost use Rattle.packet.specs.Read.{causeNumber, refusalNumber};
 use address::Flow;
 use address::Version;
 use address::read_flow;
@@ -52,8 +52,8 @@ pub enum Cause {
 
 // What an IP header says: why the packet is refused, or where TCP's header begins and where the packet ends.
 enum IpRead {
-    Bad(Cause),
-    Carries(usize, usize),
+    BadHeader(Cause),
+    CarriesTcp(usize, usize),
 }
 
 pub enum PacketRead {
@@ -64,7 +64,7 @@ pub enum PacketRead {
 // What row 10 says of the flags.
 enum FlagCheck {
     Fine,
-    Bad(Cause),
+    BadFlags(Cause),
 }
 
 impl Cause {
@@ -124,7 +124,7 @@ fn check_flags(flags: u8, n: usize) -> FlagCheck
     match low {
         0..=1 => {
             if flags / 16 % 2 == 0 {
-                return FlagCheck::Bad(Cause::NoSynAckRst);
+                return FlagCheck::BadFlags(Cause::NoSynAckRst);
             }
             FlagCheck::Fine
         }
@@ -132,10 +132,10 @@ fn check_flags(flags: u8, n: usize) -> FlagCheck
             if n == 0 {
                 return FlagCheck::Fine;
             }
-            FlagCheck::Bad(Cause::SynPayload)
+            FlagCheck::BadFlags(Cause::SynPayload)
         }
         4..=5 => FlagCheck::Fine,
-        _ => FlagCheck::Bad(Cause::SynFinRst),
+        _ => FlagCheck::BadFlags(Cause::SynFinRst),
     }
 }
 
@@ -183,7 +183,7 @@ fn read_tcp(version: Version, addresses: usize, s: &[u8], h: usize, t: usize) ->
     }
     let check = check_flags(s[h + 13], t - h - offset);
     match check {
-        FlagCheck::Bad(cause) => PacketRead::Refused(cause),
+        FlagCheck::BadFlags(cause) => PacketRead::Refused(cause),
         FlagCheck::Fine => PacketRead::Tcp(
             read_flow(version, s, addresses, h),
             read_segment(s, h, t),
@@ -197,15 +197,15 @@ fn check_ipv4_header(s: &[u8], h: usize, t: usize) -> IpRead
     ensures { λ r. ⌜ (r ≡ rows6to8 (now (s .entry)) h t) × Inside Version.V4 ipv4Addresses (now (s .entry)) r ⌝ }
 {
     if header_sum(&s[0..h]) != 65535 {
-        return IpRead::Bad(Cause::HeaderSum);
+        return IpRead::BadHeader(Cause::HeaderSum);
     }
     if read16(s, 6) % 16384 != 0 {
-        return IpRead::Bad(Cause::Fragment);
+        return IpRead::BadHeader(Cause::Fragment);
     }
     if s[9] != 6 {
-        return IpRead::Bad(Cause::Protocol);
+        return IpRead::BadHeader(Cause::Protocol);
     }
-    IpRead::Carries(h, t)
+    IpRead::CarriesTcp(h, t)
 }
 
 // Rows 5 to 8 of an IPv4 packet.
@@ -213,22 +213,22 @@ fn read_ipv4_header(s: &[u8]) -> IpRead
     ensures { λ r. ⌜ (r ≡ ipv4Header (now (s .entry))) × Inside Version.V4 ipv4Addresses (now (s .entry)) r ⌝ }
 {
     if s.len() < 20 {
-        return IpRead::Bad(Cause::Short);
+        return IpRead::BadHeader(Cause::Short);
     }
     let first = s[0] as usize;
     if first / 16 != 4 {
-        return IpRead::Bad(Cause::OtherVersion);
+        return IpRead::BadHeader(Cause::OtherVersion);
     }
     let h = first % 16 * 4;
     if h < 20 {
-        return IpRead::Bad(Cause::HeaderLength);
+        return IpRead::BadHeader(Cause::HeaderLength);
     }
     let t = read16(s, 2) as usize;
     if t < h {
-        return IpRead::Bad(Cause::TotalBelowHeader);
+        return IpRead::BadHeader(Cause::TotalBelowHeader);
     }
     if s.len() < t {
-        return IpRead::Bad(Cause::TotalAboveGiven);
+        return IpRead::BadHeader(Cause::TotalAboveGiven);
     }
     check_ipv4_header(s, h, t)
 }
@@ -239,7 +239,7 @@ pub fn read_ipv4(s: &[u8]) -> PacketRead
 {
     let header = read_ipv4_header(s);
     match header {
-        IpRead::Bad(cause) => PacketRead::Refused(cause),
-        IpRead::Carries(h, t) => read_tcp(Version::V4, 12, s, h, t),
+        IpRead::BadHeader(cause) => PacketRead::Refused(cause),
+        IpRead::CarriesTcp(h, t) => read_tcp(Version::V4, 12, s, h, t),
     }
 }

@@ -1,6 +1,5 @@
 -- The table in bytes, n places after its header (document 01, "The table").
 use Prim.Native.Nat.{ℕ, zero, suc, _+_, _^_}
-use mathlib.Core.Path.{_≡_}
 use mathlib.Core.Bool.{Bool, true, _&&_, _||_}
 use mathlib.Core.List.{List}
 use lib.ListN.{getD}
@@ -23,13 +22,9 @@ allFrom test i (suc k) = test i && allFrom test (i + 1) k
 unfoldable pub zerosAt : List ℕ → ℕ → ℕ → Bool
 zerosAt t at n = allFrom (λ i. getD t i 0 =ᵇ 0) at n
 
--- a number is 0 exactly where they are
-abbrev pub TestsZeros : List ℕ → ℕ → ℕ → ℕ → Type 0
-TestsZeros t at n r = (r ≡ 0 → zerosAt t at n ≡ true) × (zerosAt t at n ≡ true → r ≡ 0)
-
 -- Sound
 
--- header: clock (8), zeros (54), the version's mark (byte 62), zero (byte 63)
+-- header: clock (8), then zeros; byte 62 tells the IP version (document 02, item 14)
 abbrev pub clockAt : ℕ
 clockAt = 0
 
@@ -39,8 +34,8 @@ headerZerosAt = 8
 abbrev pub headerZeros : ℕ
 headerZeros = 54
 
-abbrev pub markAt : ℕ
-markAt = 62
+abbrev pub versionByteAt : ℕ
+versionByteAt = 62
 
 abbrev pub lastAt : ℕ
 lastAt = 63
@@ -48,17 +43,17 @@ lastAt = 63
 unfoldable pub headerClock : List ℕ → ℕ
 headerClock t = bigEndian 8 t clockAt
 
--- 1 in an IPv6 table and 0 otherwise
-abbrev pub headerMark : Version → ℕ
-headerMark V4 = 0
-headerMark V6 = 1
+-- "1 in an IPv6 table and 0 otherwise"
+abbrev pub versionByte : Version → ℕ
+versionByte V4 = 0
+versionByte V6 = 1
 
--- header clock under 2^48, the mark its version's, and its rest zero
+-- header clock under 2^48, the byte of its version, and its rest zero
 unfoldable pub soundHeader : Version → List ℕ → Bool
 soundHeader v t =
     (headerClock t <ᵇ 2 ^ 48)
     && (zerosAt t headerZerosAt headerZeros
-    && ((getD t markAt 0 =ᵇ headerMark v)
+    && ((getD t versionByteAt 0 =ᵇ versionByte v)
     && (getD t lastAt 0 =ᵇ 0)))
 
 -- a free entry is 64 or 96 zeros

@@ -11,8 +11,8 @@ ghost use Rattle.rows.specs.Rows.{fromOpener, fromAnswerer, liveMatch, vacant, 
 ghost use Rattle.rows.specs.Connections.{connections};
 ghost use Rattle.entry.specs.Layout.{headerSize, restSize, entrySize, placeAt, entryAt};
 ghost use Rattle.entry.specs.Viewed.{viewed};
-ghost use Rattle.table.specs.Table.{TestsZeros, clockAt, headerClock, headerMark, soundHeader, soundTable, viewOf};
-ghost use Rattle.table.specs.Words.{soundWord, soundNumbers, soundEntry};
+ghost use Rattle.table.specs.Table.{clockAt, headerClock, versionByte, soundHeader, soundTable, viewOf};
+ghost use Rattle.table.specs.Words.{TestsZeros, soundWord, soundNumbers, soundEntry};
 use address::Flow;
 use address::Version;
 use address::flow_is;
@@ -116,7 +116,7 @@ fn any_rest(version: Version, table: &[u8], at: usize) -> u64
     }
 }
 
-// The header: clock (8), zeros (54), the version's mark (1), zero (1)
+// The header: clock (8), zeros (54), the IP version (1), zero (1)
 
 const CLOCK: usize = 0;
 
@@ -361,9 +361,9 @@ fn sound_entry(version: Version, table: &[u8], clock: u64, at: usize) -> bool
     true
 }
 
-// The header's last four octets as one word, lowest first: two of its zeros, the mark, a zero.
+// The header's last four octets as one word, lowest first: two of its zeros, the IP version's byte, a zero.
 fn last_word(version: Version) -> u32
-    ensures { λ r. ⌜ r ≡ headerMark version * 65536 ⌝ }
+    ensures { λ r. ⌜ r ≡ versionByte version * 65536 ⌝ }
 {
     match version {
         Version::V4 => 0,
@@ -371,7 +371,7 @@ fn last_word(version: Version) -> u32
     }
 }
 
-// Header clock under 2^48, the version's mark, and the header's rest zero. The mark and the octets beside it are one load and one test.
+// Header clock under 2^48, the IP version's byte, and the header's rest zero. That byte and the octets beside it are one load and one test.
 fn sound_header(version: Version, table: &[u8]) -> bool
     requires { ⌜ headerSize ≤ length (now table) ⌝ }
     ensures { λ r. ⌜ r ≡ soundHeader version (now (table .entry)) ⌝ }

@@ -1,15 +1,16 @@
 -- Row 5's lines, each by the facts that the tests before it gave, then rows 6 to 8.
-use mathlib.Core.Path.{_≡_, sym, ap, _∙_}
+use mathlib.Core.Path.{sym, ap, _∙_}
 use native.Mathlib.Omega.{arith}
 use Rattle.choice.proofs.Choice.{if-<, if-<-not, if-≠, if-≠-not}
-use Rattle.packet.specs.Tails.{rows6to8}
-use Rattle.packet.proofs.Read.{ipv4Header≡row5-then-tail, past-row5}
+use Rattle.packet.specs.Read.{rows6to8, ipv4Header}
+use Rattle.packet.proofs.Read.{past-row5}
 use borrow.Author.Needs.{needs}
 use Rattle.packet.proofs.read_ipv4_header.Statement.{statement}
 use Rattle.packet.proofs.read_ipv4_header.Tie as tie
 
 returns : tie.Need-returns
-returns c = (sym (ipv4Header≡row5-then-tail _ ∙ if-< _ _ (c .if1 .taken)), tt)
+unfolding ipv4Header
+returns c = (sym (if-< _ _ (c .if1 .taken)), tt)
 
 shared-slice-read-first : tie.Need-shared-slice-read-first
 shared-slice-read-first c = search needs
@@ -18,15 +19,17 @@ cast-first : tie.Need-cast-first
 cast-first c = omega (arith, c .shared-slice-known2 .given 0)
 
 returns-2 : tie.Need-returns-2
-returns-2 c = (sym (ipv4Header≡row5-then-tail _ ∙ if-<-not _ _ (c .before .before .if1 .left) ∙ if-≠ _ _ (c .if2 .taken)), tt)
+unfolding ipv4Header
+returns-2 c = (sym (if-<-not _ _ (c .before .before .if1 .left) ∙ if-≠ _ _ (c .if2 .taken)), tt)
 
 mul-h : tie.Need-mul-h
 mul-h c = search needs
 
 returns-3 : tie.Need-returns-3
+unfolding ipv4Header
 returns-3 c =
     let k = c .before in
-    (sym (ipv4Header≡row5-then-tail _ ∙ if-<-not _ _ (k .before .before .if1 .left) ∙ if-≠-not _ _ (k .if2 .left) ∙ if-< _ _ (c .if3 .taken)), tt)
+    (sym (if-<-not _ _ (k .before .before .if1 .left) ∙ if-≠-not _ _ (k .if2 .left) ∙ if-< _ _ (c .if3 .taken)), tt)
 
 read16-requires : tie.Need-read16-requires
 read16-requires c κs = search needs
@@ -35,22 +38,24 @@ cast-t : tie.Need-cast-t
 cast-t c = search needs
 
 returns-4 : tie.Need-returns-4
+unfolding ipv4Header
 returns-4 c =
     let m = c .before .before in
     let k = m .before in
     let low = rw (c .before .read16 .ensures) at (c .if4 .taken) in (
-      sym (ipv4Header≡row5-then-tail _ ∙ if-<-not _ _ (k .before .before .if1 .left) ∙ if-≠-not _ _ (k .if2 .left) ∙ if-<-not _ _ (m .if3 .left)
+      sym (if-<-not _ _ (k .before .before .if1 .left) ∙ if-≠-not _ _ (k .if2 .left) ∙ if-<-not _ _ (m .if3 .left)
           ∙ if-< _ _ low),
       tt,
     )
 
 returns-5 : tie.Need-returns-5
+unfolding ipv4Header
 returns-5 c =
     let m = c .before .before .before in
     let k = m .before in
     let room = rw (c .before .before .read16 .ensures) at (c .before .if4 .left) in
     let above = rw (c .before .before .read16 .ensures) at (c .if5 .taken) in (
-      sym (ipv4Header≡row5-then-tail _ ∙ if-<-not _ _ (k .before .before .if1 .left) ∙ if-≠-not _ _ (k .if2 .left) ∙ if-<-not _ _ (m .if3 .left)
+      sym (if-<-not _ _ (k .before .before .if1 .left) ∙ if-≠-not _ _ (k .if2 .left) ∙ if-<-not _ _ (m .if3 .left)
           ∙ if-<-not _ _ room ∙ if-< _ _ above),
       tt,
     )
