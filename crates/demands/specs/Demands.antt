@@ -64,11 +64,11 @@ module _ (v : Version) where
     abbrev pub Demand3FromSound : Type 0
     Demand3FromSound = Demand3 (bytesMachine v read) (SoundBytes v)
 
--- all zeros, as document 01 has a fresh table
+-- a fresh IPv4 table is all zeros, as document 01 has it
 abbrev pub FreshIsZeros : Type 0
 FreshIsZeros = (n : ℕ) → freshBytes V4 n ≡ replicate (placeAt V4 n) 0
 
--- all of them
+-- all three
 pub record Demands (v : Version) (read : List ℕ → PacketRead) : Type 0 where
   pub demand1 : Demand1OnBytes v read
   pub demand2 : Demand2OnBytes v read

@@ -78,7 +78,10 @@ fn smallest(piece: &[u8], at: usize) -> u8
 // Skips blocks of 32 bytes that are all larger than a newline, as those of a legal line are.
 fn skip_blocks(piece: &[u8], at: usize) -> usize
     requires { ⌜ at ≤ length (now piece) ⌝ }
-    ensures { λ r. ⌜ (r + beforeNewline (drop r (now (piece .entry))) ≡ at + beforeNewline (drop at (now (piece .entry)))) × (at ≤ r) × (r ≤ length (now (piece .entry))) ⌝ }
+    ensures { λ r.
+        ⌜ (r + beforeNewline (drop r (now (piece .entry))) ≡ at + beforeNewline (drop at (now (piece .entry))))
+        × (at ≤ r)
+        × (r ≤ length (now (piece .entry))) ⌝ }
 {
     let mut i = at;
     while 32 <= piece.len() - i {
@@ -108,7 +111,10 @@ fn newline_from(piece: &[u8], at: usize) -> usize
 // Keeps further bytes of a line, and gives how many are kept then; what there is no room for is dropped.
 fn keep(bytes: &[u8], line: &mut [u8], kept: usize) -> usize
     requires { ⌜ kept ≤ length (now line) ⌝ }
-    ensures { λ r. ⌜ (r ≡ kept + length (fitting (now (line .entry)) kept (now (bytes .entry)))) × (now (line .exit) ≡ overwrite (now (line .entry)) kept (fitting (now (line .entry)) kept (now (bytes .entry)))) × (r ≤ length (now (line .entry))) ⌝ }
+    ensures { λ r.
+        ⌜ (r ≡ kept + length (fitting (now (line .entry)) kept (now (bytes .entry))))
+        × (now (line .exit) ≡ overwrite (now (line .entry)) kept (fitting (now (line .entry)) kept (now (bytes .entry))))
+        × (r ≤ length (now (line .entry))) ⌝ }
 {
     let n = least(line.len() - kept, bytes.len());
     report::put_text(line, kept, &bytes[0..n])
@@ -116,7 +122,9 @@ fn keep(bytes: &[u8], line: &mut [u8], kept: usize) -> usize
 
 // Answers a line; one that the reader refuses is not shown to the filter.
 fn answer_line(text: &[u8], packet: &mut Packet, table: &mut [u8]) -> Answered
-    ensures { λ r. ⌜ record { answer = r .answer; shown = r .shown; table = now (table .exit) } ≡ resultOf (now (text .entry)) (now (table .entry)) ⌝ }
+    ensures { λ r.
+        ⌜ record { answer = r .answer; shown = r .shown; table = now (table .exit) }
+        ≡ resultOf (now (text .entry)) (now (table .entry)) ⌝ }
 {
     let read = trace::read_line(text, packet);
     match read {
@@ -157,7 +165,9 @@ fn pass_count(answer: u32) -> u64
 // Adds the text of an answer to the output, and counts it.
 fn put_answer(out: &mut [u8], progress: Progress, answer: u32, shown: Shown) -> Progress
     requires { ⌜ progress .used + length (resultText answer shown) ≤ length (now out) ⌝ }
-    ensures { λ r. ⌜ (r ≡ withAnswer progress answer shown) × (now (out .exit) ≡ overwrite (now (out .entry)) (progress .used) (resultText answer shown)) ⌝ }
+    ensures { λ r.
+        ⌜ (r ≡ withAnswer progress answer shown)
+        × (now (out .exit) ≡ overwrite (now (out .entry)) (progress .used) (resultText answer shown)) ⌝ }
 {
     let used = report::put_result(out, progress.used, answer, shown);
     // The next line begins.
@@ -179,7 +189,9 @@ fn end_line(
     progress: Progress,
 ) -> Progress
     requires { ⌜ (progress .kept ≤ length (now line)) × (progress .used + resultRoom ≤ length (now out)) ⌝ }
-    ensures { λ r. ⌜ memory (now (table .exit)) (now (line .entry)) (now (out .exit)) r ≡ withLine (memory (now (table .entry)) (now (line .entry)) (now (out .entry)) progress) ⌝ }
+    ensures { λ r.
+        ⌜ memory (now (table .exit)) (now (line .entry)) (now (out .exit)) r
+        ≡ withLine (memory (now (table .entry)) (now (line .entry)) (now (out .entry)) progress) ⌝ }
     ensures { λ r. ⌜ (r .kept ≡ 0) × (r .used ≤ progress .used + resultRoom) ⌝ }
 {
     let kept = progress.kept;
@@ -199,7 +211,9 @@ pub fn feed(
     from: Progress,
 ) -> Progress
     requires { ⌜ (length (now line) ≡ lineRoom) × (from .kept ≤ lineRoom) × (from .used + resultRoom * length (now piece) ≤ length (now out)) ⌝ }
-    ensures { λ r. ⌜ memory (now (table .exit)) (now (line .exit)) (now (out .exit)) r ≡ afterPiece (memory (now (table .entry)) (now (line .entry)) (now (out .entry)) from) (now (piece .entry)) ⌝ }
+    ensures { λ r.
+        ⌜ memory (now (table .exit)) (now (line .exit)) (now (out .exit)) r
+        ≡ afterPiece (memory (now (table .entry)) (now (line .entry)) (now (out .entry)) from) (now (piece .entry)) ⌝ }
     ensures { λ r. ⌜ (r .kept ≤ length (now (line .exit))) × (r .used ≤ length (now (out .exit))) ⌝ }
 {
     let mut packet = [0u8; 2048];
@@ -219,7 +233,9 @@ pub fn feed(
 // Ends the run: a last line without a newline, and the totals.
 pub fn finish(line: &[u8], table: &mut [u8], out: &mut [u8], progress: Progress) -> Progress
     requires { ⌜ (length (now line) ≡ lineRoom) × (progress .kept ≤ lineRoom) × (progress .used + resultRoom + totalRoom ≤ length (now out)) ⌝ }
-    ensures { λ r. ⌜ memory (now (table .exit)) (now (line .entry)) (now (out .exit)) r ≡ withTotal (atEnd (memory (now (table .entry)) (now (line .entry)) (now (out .entry)) progress)) ⌝ }
+    ensures { λ r.
+        ⌜ memory (now (table .exit)) (now (line .entry)) (now (out .exit)) r
+        ≡ withTotal (atEnd (memory (now (table .entry)) (now (line .entry)) (now (out .entry)) progress)) ⌝ }
     ensures { λ r. ⌜ r .used ≤ length (now (out .exit)) ⌝ }
 {
     let last = end_input(line, table, out, progress);
@@ -235,7 +251,9 @@ pub fn finish(line: &[u8], table: &mut [u8], out: &mut [u8], progress: Progress)
 // A last line without a newline is a line if it has any byte.
 fn end_input(line: &[u8], table: &mut [u8], out: &mut [u8], progress: Progress) -> Progress
     requires { ⌜ (progress .kept ≤ length (now line)) × (progress .used + resultRoom ≤ length (now out)) ⌝ }
-    ensures { λ r. ⌜ memory (now (table .exit)) (now (line .entry)) (now (out .exit)) r ≡ atEnd (memory (now (table .entry)) (now (line .entry)) (now (out .entry)) progress) ⌝ }
+    ensures { λ r.
+        ⌜ memory (now (table .exit)) (now (line .entry)) (now (out .exit)) r
+        ≡ atEnd (memory (now (table .entry)) (now (line .entry)) (now (out .entry)) progress) ⌝ }
     ensures { λ r. ⌜ r .used ≤ progress .used + resultRoom ⌝ }
 {
     if progress.kept == 0 {
