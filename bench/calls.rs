@@ -1,4 +1,5 @@
-//! Times the library's `qb_filter` and the reference's `filter` on the same calls, the best of RUNS batches of each.
+//! Times the library's `qb_filter` and the reference's `filter` on the same calls, the best of RUNS batches of each. Built with
+//! `--cfg before`, it times an earlier library's `qb_filter_before` in the reference's place.
 mod cases;
 mod packets;
 mod report;
@@ -12,6 +13,15 @@ use tables::CLOCK;
 
 extern "C" {
     fn qb_filter(
+        side: u8,
+        clock: u64,
+        table: *mut u8,
+        table_len: usize,
+        packet: *const u8,
+        packet_len: usize,
+    ) -> u32;
+    #[cfg(before)]
+    fn qb_filter_before(
         side: u8,
         clock: u64,
         table: *mut u8,
@@ -60,6 +70,30 @@ impl Filter for Ours {
     }
 }
 
+#[cfg(before)]
+impl Filter for Reference {
+    type Given = u32;
+
+    fn call(side: u8, clock: u64, table: &mut [u8], packet: &[u8]) -> u32 {
+        // As above.
+        unsafe {
+            qb_filter_before(
+                side,
+                clock,
+                table.as_mut_ptr(),
+                table.len(),
+                packet.as_ptr(),
+                packet.len(),
+            )
+        }
+    }
+
+    fn answer_and_place(given: u32) -> (u32, u32) {
+        Ours::answer_and_place(given)
+    }
+}
+
+#[cfg(not(before))]
 impl Filter for Reference {
     type Given = (u32, u32);
 
