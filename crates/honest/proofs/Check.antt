@@ -1,4 +1,4 @@
--- A list of events over the filter can be checked to be legal by computation.
+-- A list of events over the rows can be checked to be legal by computation.
 use Prim.Native.Nat.{ℕ, _+_, _-_, _<_, _≤_, max}
 use mathlib.Core.Path.{_≡_, refl, sym, ap, _∙_}
 use mathlib.Core.Logic.{_⊎_, inl, inr, ⊎-elim}

@@ -1,4 +1,4 @@
--- Demand 2 of every machine that keeps to the filter.
+-- Demand 2 of every machine that keeps to the rows.
 use Prim.Native.Nat.{ℕ}
 use mathlib.Core.Path.{_≡_, refl, sym, ap, _∙_}
 use mathlib.Core.List.{List, [], _∷_}

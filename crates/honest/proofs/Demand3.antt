@@ -1,4 +1,4 @@
--- Demand 3: two honest ends are never blocked, by any machine that keeps to the filter.
+-- Demand 3: two honest ends are never blocked, by any machine that keeps to the rows.
 use Prim.Native.Nat.{ℕ, _+_, _<_, _≤_, max}
 use mathlib.Core.Path.{_≡_, refl, sym, ap, subst, _∙_}
 use mathlib.Core.Logic.{_⊎_, inl, inr, ⊎-elim}
@@ -83,7 +83,7 @@ module _ (M : Machine) (Sound : M .State → Type 0) (keeps : KeepsTo M Sound) (
     unfolding passes
     passed-0 e = eqb-true _ _ e
 
-    -- one that asks and passes is answered by the filter
+    -- one that asks and passes is answered by the rows
     pub record Asked : Type 0 where
       pub ask : Ask
       pub read : M .reads q ≡ asks ask

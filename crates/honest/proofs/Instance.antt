@@ -1,4 +1,4 @@
--- The theorem applies to the filter itself, from any sound table, and the fresh table is one.
+-- The theorem applies to the rows themselves, from any sound table, and the fresh table is one.
 use Prim.Native.Nat.{ℕ, _≤_}
 use mathlib.Core.Path.{_≡_, refl}
 use mathlib.Core.Logic.{inl}
@@ -32,7 +32,7 @@ module _ (number : ℕ → ℕ) where
     sound-kept = λ t q sound. filter-sound t (q .0) (sound .0) (sound .1) (q .1) (q .2);
   }
 
-  -- two honest ends are never blocked by the filter
+  -- two honest ends are never blocked by the rows
   pub demand3-view : Demand3 (viewMachine number) SoundTypedView
   demand3-view = demand3 (viewMachine number) SoundTypedView viewMachine-keeps
 

@@ -1,4 +1,4 @@
--- A list that is legal over the filter is legal over every machine that keeps to it and is asked the same.
+-- A list that is legal over the rows is legal over every machine that keeps to them and is asked the same.
 use Prim.Native.Nat.{ℕ, zero, suc, _+_, max}
 use mathlib.Core.Path.{_≡_, refl, sym, ap, _∙_}
 use mathlib.Core.Logic.{inl, inr, ⊎-elim}
@@ -79,7 +79,7 @@ module _ (M : Machine) where
       }
       (answered-same (p .from) c ∙ now)
 
-  -- a list with each call made from the filter's, where all are read as what they were made from
+  -- a list with each call made from the rows', where all are read as what they were made from
   pub made-carries :
       (f : ViewCall → M .Call) (N : List (Event ViewCall)) → readings M (map (withCall f) N) ≡ readings (viewMachine (M .number)) N →
       Carries M (map (withCall f) N) N

@@ -11,7 +11,7 @@ use Rattle.honest.specs.Rules.{Label, opening, arrival, other, Event, se
 use Rattle.honest.specs.Honest.{told, said, Legal}
 use Rattle.honest.specs.Instance.{ViewCall, viewMachine}
 
--- the same sendings, deliveries and labels, and each call asks what the filter's asks, or is refused and stands for none
+-- the same sendings, deliveries and labels, and each call asks what the rows' asks, or is refused and stands for none
 pub data Carries (M : Machine) : List (Event (M .Call)) → List (Event ViewCall) → Type 0 where
   none : Carries M [] []
   sent :
@@ -28,7 +28,7 @@ pub data Carries (M : Machine) : List (Event (M .Call)) → List (Event ViewCall
       {k : ℕ} {p : LineSegment} {L : List (Event (M .Call))} {N : List (Event ViewCall)} → Carries M L N →
       Carries M (delivery k p ∷ L) (delivery k p ∷ N)
 
--- A list whose calls are made from the filter's
+-- A list whose calls are made from the rows'
 
 -- an event with its call, if it is one, turned to another
 abbrev pub withCall : {A B : Type 0} → (A → B) → Event A → Event B
@@ -81,7 +81,7 @@ module _ (M : Machine) (s₀ : M .State) where
 -- The claims: of a machine, from every sound state, for every list that carries another
 
 module _ (M : Machine) (Sound : M .State → Type 0) where
-  -- if that is legal over the filter from the table that the state is, the list is legal over the machine
+  -- if that is legal over the rows from the table that the state is, the list is legal over the machine
   abbrev pub LegalCarried : Type 0
   LegalCarried =
       (s₀ : M .State) → Sound s₀ → (P : Pair) → (L : List (Event (M .Call))) (N : List (Event ViewCall)) → Carries M L N →

@@ -51,7 +51,7 @@ withAsk (refused n) l = l
 withAsk (asks a) l = a ∷ l
 withAsk apart l = l
 
--- a machine's calls, as the filter is asked
+-- a machine's calls, as the rows are asked
 unfoldable pub asked : (M : Machine) → List (M .Call) → List Ask
 asked M [] = []
 asked M (q ∷ l) = withAsk (M .reads q) (asked M l)

@@ -113,7 +113,7 @@ isLeft anything l = true
 isLeft (ends o a) l = sameEnd (sender l 0) o && sameEnd (sender l 1) a
 isLeft (answererEdge n) l = sender l 1 .edge .0 =ᵇ n
 
--- the filter gives the answer, place 0 with a pass, and leaves what is said
+-- the rows give the answer, place 0 with a pass, and leave what is said
 abbrev pub holds : Case → Bool
 holds c =
     let o = filter connections (c .table) (c .call) in

@@ -1,4 +1,4 @@
--- The table of three places, by computation.
+-- The tables of three places, by computation.
 use mathlib.Core.Path.{refl}
 use Rattle.choice.specs.Choice.{if_then_else_}
 use Rattle.serial.specs.Ring.{wrap, ringPlus, ringMinus, nearest}

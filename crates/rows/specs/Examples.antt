@@ -1,4 +1,4 @@
--- A table of three places: a call for each row, and what passes leave there.
+-- Tables of three places: a call for each row, and what passes leave there.
 use Prim.Native.Nat.{ℕ, zero, suc, _+_}
 use mathlib.Core.Path.{_≡_}
 use mathlib.Core.List.{[], _∷_}

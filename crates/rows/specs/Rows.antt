@@ -50,8 +50,8 @@ module _ (B : Bodies) where
     pub key : Flow
     pub connection : B .Body
 
-  -- a table, or the part of one that a call is on: the header's clock, the number of places, and the entry at each; past its last place,
-  -- which no row looks at, a view has what it had
+  -- a table, or the part of one that a call is on: the header's clock, the number of places, and the entry at each; what it gives past its
+  -- last place no row looks at
   pub record View : Type 0 where
     pub clock : ℕ
     pub places : ℕ
