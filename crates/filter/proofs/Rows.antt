@@ -1,6 +1,6 @@
 -- Rows 1 to 4: legal lengths and the places of a table, and the list by the number that it refuses with.
 use Prim.Native.Nat.{ℕ, suc, _+_, _*_, _-_, _%_, _^_, _≤_, _<_, max}
-use mathlib.Core.Path.{_≡_, refl, sym, _∙_}
+use mathlib.Core.Path.{_≡_, refl, sym, ap, _∙_}
 use mathlib.Core.Bool.{Bool, true, false, not}
 use mathlib.Core.List.{List}
 use native.Mathlib.Omega.{arith}
@@ -15,9 +15,10 @@ use Rattle.packet.specs.declared.PacketRead.{PacketRead}
 use Rattle.rows.specs.Rows.{Blocked, onSegment}
 use Rattle.rows.specs.Connections.{connections}
 use Rattle.entry.specs.Layout.{headerSize, entrySize, placeAt}
+use Rattle.entry.proofs.Places.{next-place}
 use Rattle.table.specs.Table.{headerClock, soundHeader, soundTable}
 use Rattle.table.proofs.Words.{header-clock-under}
-use Rattle.filter.specs.Length.{legalLength, placesFor}
+use Rattle.filter.specs.Length.{legalLength, placesFor, LegalWherePlaces}
 use Rattle.filter.specs.Call.{Outcome, placesIn, tableOf, rows1to4, rows5to10, outcomeOf}
 use Rattle.filter.specs.Decision.{tableRefusal}
 
@@ -75,6 +76,15 @@ pub places-most : (v : Version) (n : ℕ) → n ≤ placeAt v 512 → placesFor 
 unfolding placeAt placesFor
 places-most V4 n h = omega arith
 places-most V6 n h = omega arith
+
+pub legal-where-places : LegalWherePlaces
+legal-where-places v l = (
+  (λ legal.
+      let bounds = legal-length-bounds v l legal in
+      let some = inside-places v l 0 (omega (arith, next-place v 0, bounds .0)) in
+      (omega (arith, some), places-most v l (bounds .1), length-whole v l legal)),
+  (λ n some most is. ap (legalLength v) is ∙ length-made v n some most),
+)
 
 -- a sound table's clock is below 2^48, so that the clock used is
 pub sound-table-clock : (v : Version) (t : List ℕ) (n : ℕ) → soundTable v t n ≡ true → headerClock t < 2 ^ 48
