@@ -1,7 +1,7 @@
 -- The rows over histories: each entry keeps the segments that passed on its connection, on the unwrapped line, and bounds I to
 -- IV over them decide (in stage 1, the three segments). And what the table has for such an entry.
 use Prim.Native.Nat.{ℕ, _+_}
-use mathlib.Core.Path.{_≡_, refl}
+use mathlib.Core.Path.{refl}
 use mathlib.Core.List.{List, [], _∷_}
 use Rattle.choice.specs.Choice.{_=ᵇ_}
 use Rattle.segment.specs.declared.Segment.{Segment}
