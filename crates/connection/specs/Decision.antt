@@ -7,7 +7,7 @@ use Rattle.choice.specs.Choice.{if_then_else_, _=ᵇ_, _≠ᵇ_}
 use Rattle.serial.specs.Serial.{sameSeq, seqBack}
 use Rattle.segment.specs.Flags.{isReset, ack, SYN, SYN+ACK, ACK+RST}
 use Rattle.segment.specs.declared.Segment.{Segment}
-use Rattle.connection.specs.Ends.{count, zeros, unheard, sender, other, granted, opening, widened, written}
+use Rattle.connection.specs.Ends.{count, opener, answerer, zeros, unheard, sender, receiver, granted, begun, widened, endsAfter}
 use Rattle.connection.specs.Ranges.{sequenceMet, ackRange, ackMet}
 use Rattle.connection.specs.Stages.{lifeOf, finsAfter, stageAfter}
 use Rattle.connection.specs.declared.Connection.{Connection}
@@ -16,16 +16,16 @@ use Rattle.connection.specs.declared.End.{End}
 use Rattle.connection.specs.declared.Verdict.{Verdict}
 use Rattle.connection.specs.declared.Verdict.the-variants.{Pass, NotAllowed, SequenceMissed, AckMissed}
 
-abbrev pub opener : Connection → End
-opener c = sender (c .ends) 0
+abbrev pub openerOf : Connection → End
+openerOf c = sender (c .ends) opener
 
 -- the same SYN again: the opener's, no ACK, s = opener end − 1
 unfoldable pub sameSyn : Connection → ℕ → Segment → Bool
-sameSyn c i g = (i =ᵇ 0) && ((g .flags =ᵇ SYN) && sameSeq (g .seq) (seqBack (opener c .end) (count 1)))
+sameSyn c i g = (i =ᵇ opener) && ((g .flags =ᵇ SYN) && sameSeq (g .seq) (seqBack (openerOf c .end) (count 1)))
 
 -- from the answerer, with a = opener end, either SYN+ACK or ACK+RST without FIN
 unfoldable pub reply : Connection → ℕ → Segment → Bool
-reply c i g = (i =ᵇ 1) && (sameSeq (g .ack) (opener c .end) && ((g .flags =ᵇ SYN+ACK) || (g .flags =ᵇ ACK+RST)))
+reply c i g = (i =ᵇ answerer) && (sameSeq (g .ack) (openerOf c .end) && ((g .flags =ᵇ SYN+ACK) || (g .flags =ᵇ ACK+RST)))
 
 -- 13: stage 1, and not one of the three segments allowed there
 unfoldable pub verdictUnanswered : Connection → ℕ → Segment → Verdict
@@ -34,8 +34,8 @@ verdictUnanswered c i g = if sameSyn c i g || reply c i g then Pass else NotAllo
 -- 14: sequence range missed; 15: ACK set, acknowledgement range missed
 unfoldable pub verdictByRanges : Connection → ℕ → Segment → Verdict
 verdictByRanges c i g =
-    if not (sequenceMet (sender (c .ends) i) (other (c .ends) i) g) then SequenceMissed
-    else if (ack (g .flags) =ᵇ 1) && not (ackMet ackRange (other (c .ends) i) g) then AckMissed
+    if not (sequenceMet (sender (c .ends) i) (receiver (c .ends) i) g) then SequenceMissed
+    else if (ack (g .flags) =ᵇ 1) && not (ackMet ackRange (receiver (c .ends) i) g) then AckMissed
     else Pass
 
 -- rows 13, 14, 15 and 0, for a segment of sender i
@@ -67,7 +67,7 @@ free = record {
 
 -- opening SYN: stage 1, FIN bits 0; opener end = edge = s + 1, win = max(w, 1); answerer 0, 0, 1
 unfoldable pub opened : ℕ → Segment → ℕ → Connection
-opened side g now = record { stage = 1; side = side; fins = 0; deadline = now + lifeOf 1; ends = opening g ∷ unheard ∷ [] }
+opened side g now = record { stage = 1; side = side; fins = 0; deadline = now + lifeOf 1; ends = begun g ∷ unheard ∷ [] }
 
 -- the same SYN again: of the six numbers only the opener's win may change
 unfoldable pub repeated : Connection → Segment → ℕ → Connection
@@ -76,7 +76,7 @@ repeated c g now = record {
   side = c .side;
   fins = 0;
   deadline = now + lifeOf 1;
-  ends = set (c .ends) 0 (widened (opener c) g);
+  ends = set (c .ends) opener (widened (openerOf c) g);
 }
 
 -- SYN+ACK sets the answerer's end = edge = s + 1 and win = max(w, 1), raises the opener's edge, and gives stage 2
@@ -86,7 +86,7 @@ answered c g now = record {
   side = c .side;
   fins = 0;
   deadline = now + lifeOf 2;
-  ends = granted (opener c) g ∷ opening g ∷ [];
+  ends = granted (openerOf c) g ∷ begun g ∷ [];
 }
 
 -- from stage 2: what a pass writes, its sender's FIN bit, and the new stage with its life
@@ -96,7 +96,7 @@ carried c i g now = record {
   side = c .side;
   fins = finsAfter (c .fins) i (g .flags);
   deadline = now + lifeOf (stageAfter (c .stage) (finsAfter (c .fins) i (g .flags)) i (g .flags));
-  ends = written (c .ends) i g;
+  ends = endsAfter (c .ends) i g;
 }
 
 -- a passed RST, in any stage, frees; else what passed in stage 1 is the opener's same SYN again or the answerer's SYN+ACK, and
@@ -105,7 +105,7 @@ unfoldable pub passed : Connection → ℕ → Segment → ℕ → Connection
 passed c i g now =
     if isReset (g .flags) then free
     else if c .stage ≠ᵇ 1 then carried c i g now
-    else if i =ᵇ 0 then repeated c g now
+    else if i =ᵇ opener then repeated c g now
     else answered c g now
 
 -- What a segment of a matched connection comes to

@@ -16,6 +16,19 @@ count n = record { 0 = n }
 abbrev pub seqNum : ℕ → SeqNum
 seqNum s = record { 0 = s }
 
+-- The two ends, and the other one of them
+
+abbrev pub opener : ℕ
+opener = 0
+
+abbrev pub answerer : ℕ
+answerer = 1
+
+abbrev pub otherEnd : ℕ → ℕ
+otherEnd i = 1 - i
+
+-- Their records
+
 -- an end that has shown nothing: 0, 0, 1
 abbrev pub unheard : End
 unheard = record { end = seqNum 0; edge = seqNum 0; win = count 1 }
@@ -24,13 +37,13 @@ unheard = record { end = seqNum 0; edge = seqNum 0; win = count 1 }
 abbrev pub zeros : End
 zeros = record { end = seqNum 0; edge = seqNum 0; win = count 0 }
 
--- F, the sender's record: 0 is the opener, 1 the answerer
+-- F, the record of the end that sends
 abbrev pub sender : List End → ℕ → End
 sender ends i = getD ends i zeros
 
--- T, the other end's
-abbrev pub other : List End → ℕ → End
-other ends i = getD ends (1 - i) zeros
+-- T, the other end's, to which it sends
+abbrev pub receiver : List End → ℕ → End
+receiver ends i = getD ends (otherEnd i) zeros
 
 -- w, as it counts: unscaled today
 abbrev pub effectiveWindow : Segment → OctetCount
@@ -60,15 +73,15 @@ widened F g = record { end = F .end; edge = F .edge; win = larger (F .win) (effe
 unfoldable pub granted : End → Segment → End
 granted T g = record { end = T .end; edge = further (T .end) (T .edge) (rightEdge g); win = T .win }
 
--- what a pass of sender i writes from stage 2 on; without ACK, T is untouched
-unfoldable pub written : List End → ℕ → Segment → List End
-written ends i g =
-    if ack (g .flags) =ᵇ 1 then set (set ends i (sent (sender ends i) g)) (1 - i) (granted (other ends i) g)
+-- both after a pass of sender i, from stage 2 on; without ACK, T is untouched
+unfoldable pub endsAfter : List End → ℕ → Segment → List End
+endsAfter ends i g =
+    if ack (g .flags) =ᵇ 1 then set (set ends i (sent (sender ends i) g)) (otherEnd i) (granted (receiver ends i) g)
     else set ends i (sent (sender ends i) g)
 
--- an end that a SYN opens: end = edge = s + 1, win = max(w, 1)
-abbrev pub opening : Segment → End
-opening g = record {
+-- an end that its SYN begins: end = edge = s + 1, win = max(w, 1)
+abbrev pub begun : Segment → End
+begun g = record {
   end = seqPlus (g .seq) (count 1);
   edge = seqPlus (g .seq) (count 1);
   win = larger (effectiveWindow g) (count 1);

@@ -3,6 +3,7 @@ use Prim.Native.Nat.{ℕ, _+_, _/_, _%_}
 use mathlib.Core.Bool.{_&&_}
 use Rattle.choice.specs.Choice.{if_then_else_, _≤ᵇ_, _=ᵇ_}
 use Rattle.segment.specs.Flags.{fin, syn, ack}
+use Rattle.connection.specs.Ends.{opener}
 
 -- the longest life of a stage, in ms: that of stage 3
 abbrev pub longestLife : ℕ
@@ -20,7 +21,7 @@ lifeOf stage =
 -- the FIN bits with sender i's set: bit 0 the opener's, bit 1 the answerer's
 unfoldable pub withFin : ℕ → ℕ → ℕ
 withFin fins i =
-    if i =ᵇ 0 then (if fins % 2 =ᵇ 1 then fins else fins + 1)
+    if i =ᵇ opener then (if fins % 2 =ᵇ 1 then fins else fins + 1)
     else (if fins / 2 % 2 =ᵇ 1 then fins else fins + 2)
 
 -- from stage 2: a passed FIN sets its sender's bit; f the segment's flags
@@ -31,7 +32,7 @@ finsAfter fins i f = if fin f =ᵇ 1 then withFin fins i else fins
 unfoldable pub openStage : ℕ → ℕ → ℕ → ℕ
 openStage stage i f =
     if stage =ᵇ 3 then 3
-    else if (i =ᵇ 0) && ((ack f =ᵇ 1) && (syn f =ᵇ 0)) then 3
+    else if (i =ᵇ opener) && ((ack f =ᵇ 1) && (syn f =ᵇ 0)) then 3
     else 2
 
 -- new stage, by the FIN bits after the segment: 5 with both bits, 4 with one, else 3 or 2

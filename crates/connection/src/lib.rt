@@ -1,7 +1,7 @@
 // One connection by value: the decision on a segment of it, and what a pass leaves (document 01, "Ranges" and "Stages").
 ghost use mathlib.Core.Path.{_≡_};
 ghost use Prim.Native.Nat.{_^_, _<_, _≤_};
-ghost use Rattle.connection.specs.Ends.{effectiveWindow, sent, granted, opening, widened, written};
+ghost use Rattle.connection.specs.Ends.{effectiveWindow, sent, granted, begun, widened, endsAfter};
 ghost use Rattle.connection.specs.Ranges.{sequenceMet, ackRange, ackMet};
 ghost use Rattle.connection.specs.Stages.{longestLife, lifeOf, withFin, finsAfter, openStage, stageAfter};
 ghost use Rattle.connection.specs.Decision.{sameSyn, reply, verdictUnanswered, verdictByRanges, verdictOn, verdictNumber, answerOn, free, opened, repeated, answered, carried, passed, decided};
@@ -119,9 +119,9 @@ impl End {
         }
     }
 
-    // The record that a SYN opens.
-    pub fn opening(segment: Segment) -> End
-        ensures { λ r. ⌜ r ≡ opening segment ⌝ }
+    // The record that an end's SYN begins.
+    pub fn begun(segment: Segment) -> End
+        ensures { λ r. ⌜ r ≡ begun segment ⌝ }
     {
         let seq = segment.seq;
         let window = effective_window(segment);
@@ -256,7 +256,7 @@ impl Connection {
         requires { ⌜ clock < 2 ^ 48 ⌝ }
         ensures { λ r. ⌜ r ≡ opened side segment clock ⌝ }
     {
-        let opener = End::opening(segment);
+        let opener = End::begun(segment);
         let answerer = End {
             end: SeqNum(0),
             edge: SeqNum(0),
@@ -382,7 +382,7 @@ impl Connection {
         let side = self.side;
         let opener = self.ends[0];
         let raised = opener.granted(segment);
-        let answerer = End::opening(segment);
+        let answerer = End::begun(segment);
         let deadline = clock + life(2);
         Connection {
             stage: 2,
@@ -394,9 +394,9 @@ impl Connection {
     }
 
     // The two records after a segment from stage 2 on.
-    fn written(self, sender: usize, segment: Segment) -> [End; 2]
+    fn ends_after(self, sender: usize, segment: Segment) -> [End; 2]
         requires { ⌜ sender < 2 ⌝ }
-        ensures { λ r. ⌜ r ≡ written (self .ends) sender segment ⌝ }
+        ensures { λ r. ⌜ r ≡ endsAfter (self .ends) sender segment ⌝ }
     {
         let acks = segment.has_ack();
         let from = self.ends[sender];
@@ -419,7 +419,7 @@ impl Connection {
         let fins = fins_after(self.fins, sender, segment);
         let stage = stage_after(self.stage, fins, sender, segment);
         let deadline = clock + life(stage);
-        let ends = self.written(sender, segment);
+        let ends = self.ends_after(sender, segment);
         Connection {
             stage: stage,
             side: side,

@@ -10,7 +10,7 @@ use Rattle.rows.specs.Rows.{Blocked, Passed}
 use Rattle.entry.specs.Viewed.{stored}
 use Rattle.filter.specs.Call.{Outcome, placesIn, outcomeOf}
 use Rattle.filter.proofs.Rows.{inside-places}
-use Rattle.filter.proofs.Fits.{Within, outcome-within}
+use Rattle.filter.proofs.Within.{Within, outcome-within}
 use Rattle.demands.specs.Demands.{Demand1For, Demand1OnBytes}
 use Rattle.demands.proofs.Frame.{length-after, byte-elsewhere}
 

@@ -13,7 +13,7 @@ use Rattle.address.specs.declared.Version.the-variants.{V4}
 use Rattle.packet.specs.Read.{rows6to8, ipv4Header, row10, rows9to10}
 use Rattle.packet.specs.Sum.{onesPlus, onesSum}
 use Rattle.connection.specs.Decision.{sameSyn, reply, verdictUnanswered, verdictByRanges, verdictOn, opened, repeated, answered, carried, passed}
-use Rattle.connection.specs.Ends.{sent, granted, written}
+use Rattle.connection.specs.Ends.{sent, granted, endsAfter}
 use Rattle.connection.specs.Sound.{soundFins, soundEnd, soundUnanswered, soundConnection}
 use Rattle.connection.specs.Stages.{lifeOf, withFin, finsAfter, openStage, stageAfter}
 use Rattle.connection.specs.Ranges.{sequenceMet, ackMet}
@@ -75,7 +75,7 @@ pub example :
     (replyOf (ipv4Outcome 0 0 (freshBytes V4 2) packet1) ≡ record { answer = 0; place = 0 })
     × (replyOf (ipv4Outcome 1 100 after1 packet2) ≡ record { answer = 0; place = 0 })
     × (replyOf (ipv4Outcome 0 200 after2 packet3) ≡ record { answer = 15; place = 65535 })
-unfolding rows6to8 ipv4Header row10 rows9to10 onesPlus onesSum tabulate number digits overwrite bigEndian octetsOf endBytes marksBytes flowBytes numbersBytes entryBytes connectionAt entryAt placeAt zerosAt allFrom headerClock soundHeader freeAt soundAt soundTable firstFrom fromOpener fromAnswerer liveMatch vacant senderOf entryWith onEntry openingEntry unmatched onSegment sameFlow legalLength placesFor outcomeOf sameSyn reply verdictUnanswered verdictByRanges verdictOn opened repeated answered carried passed sent granted written soundFins soundEnd soundUnanswered soundConnection lifeOf withFin finsAfter openStage stageAfter sequenceMet ackMet further wrap ringPlus ringMinus nearest if_then_else_
+unfolding rows6to8 ipv4Header row10 rows9to10 onesPlus onesSum tabulate number digits overwrite bigEndian octetsOf endBytes marksBytes flowBytes numbersBytes entryBytes connectionAt entryAt placeAt zerosAt allFrom headerClock soundHeader freeAt soundAt soundTable firstFrom fromOpener fromAnswerer liveMatch vacant senderOf entryWith onEntry openingEntry unmatched onSegment sameFlow legalLength placesFor outcomeOf sameSyn reply verdictUnanswered verdictByRanges verdictOn opened repeated answered carried passed sent granted endsAfter soundFins soundEnd soundUnanswered soundConnection lifeOf withFin finsAfter openStage stageAfter sequenceMet ackMet further wrap ringPlus ringMinus nearest if_then_else_
 example = (refl, refl, refl)
 
 -- these are the bytes that the marked set's calls make, checksums and all

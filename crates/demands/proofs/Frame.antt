@@ -13,7 +13,7 @@ use Rattle.octets.proofs.Agree.{Agree, overwrite-agree}
 use Rattle.octets.proofs.BigEndian.{length-octetsOf, bigEndian-agree, bigEndian-overwrite}
 use Rattle.address.specs.declared.Version.{Version}
 use Rattle.entry.specs.Layout.{headerSize, entrySize, placeAt, entryAt, entryBytes}
-use Rattle.entry.specs.Typed.{Typed}
+use Rattle.entry.specs.Storable.{Storable}
 use Rattle.entry.specs.declared.Entry.{Entry}
 use Rattle.entry.proofs.Places.{header-first, place-inside}
 use Rattle.entry.proofs.Sizes.{length-entryBytes}
@@ -83,8 +83,8 @@ module _ (v : Version) where
     pub place-same : Agree (withEntry v t p now e) (placeAt v p) (entryBytes v e) 0 (entrySize v)
     place-same = overwrite-agree clocked (placeAt v p) (entryBytes v e) (entrySize v) (length-entryBytes v e) (rw length-clocked in-table)
 
-    pub entry-same : Typed v e → entryAt v (withEntry v t p now e) (placeAt v p) ≡ e
-    entry-same typed = load-stored v clocked (placeAt v p) e (rw length-clocked in-table) typed
+    pub entry-same : Storable v e → entryAt v (withEntry v t p now e) (placeAt v p) ≡ e
+    entry-same storable = load-stored v clocked (placeAt v p) e (rw length-clocked in-table) storable
 
     -- every other place is as it was
     pub place-other : (q : ℕ) → (q ≡ p → ⊥) → Agree (withEntry v t p now e) (placeAt v q) t (placeAt v q) (entrySize v)

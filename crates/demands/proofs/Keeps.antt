@@ -17,20 +17,20 @@ use Rattle.rows.specs.Rows.{Ask, Entry, Outcome, Blocked, Passed, clockUsed, fi
 use Rattle.rows.specs.Connections.{connections}
 use Rattle.history.specs.History.{Placeable}
 use Rattle.history.proofs.Places.{readable-placeable}
-use Rattle.entry.specs.Typed.{Typed}
+use Rattle.entry.specs.Storable.{Storable}
 use Rattle.entry.specs.Viewed.{stored}
-use Rattle.entry.proofs.Octets.{typed-entryAt}
+use Rattle.entry.proofs.Octets.{storable-entryAt}
 use Rattle.table.specs.Table.{headerClock}
 use Rattle.filter.specs.Call.{tableOf, replyOf, tableAfter}
-use Rattle.filter.proofs.Free.{freeEntry, typed-free}
+use Rattle.filter.proofs.Free.{freeEntry, storable-free}
 use Rattle.filter.proofs.Rows.{sound-table-clock}
 use Rattle.honest.specs.Machine.{Reading, refused, asks, apart, KeepsTo}
 use Rattle.honest.proofs.SoundKept.{Left, LeftBy, filter-left}
 use Rattle.demands.specs.Bytes.{BytesCall, SoundBytes, readingOf, called, bytesMachine, ipv4Machine}
 use Rattle.demands.proofs.View.{view-after}
-use Rattle.demands.proofs.Sound.{sound-view, typed-view}
+use Rattle.demands.proofs.Sound.{sound-view, storable-view}
 use Rattle.demands.proofs.SoundAfter.{sound-after}
-use Rattle.demands.proofs.Typed.{typed-entry}
+use Rattle.demands.proofs.Storable.{storable-entry}
 use Rattle.demands.proofs.Reading.{Brought, never-apart, asks-brought, refused-holds, asks-outcome, refused-outcome}
 
 -- every answer but a pass changes no byte
@@ -52,20 +52,20 @@ module _ (v : Version) (t : List ℕ) (a : Ask) (s : SoundBytes v t) (brought : 
     entry-sound : (stored e ≡ freeEntry) ⊎ (soundConnection now (e .connection) ≡ true)
     entry-sound = ⊎-elim (λ free. inl (ap stored free)) (λ sound. inr sound) (left .sound .sound)
 
-    entry-typed : Typed v (stored e)
-    entry-typed =
-        let fits = left .key (IsFlow v) (typed-free v .key) (brought .key) (typed-entryAt v t _ (s .octets) .key) in
-        ⊎-elim (λ free. rw free (typed-free v)) (λ sound. typed-entry v now (stored e) sound now-small (left .sound .typed) fits) entry-sound
+    entry-storable : Storable v (stored e)
+    entry-storable =
+        let fits = left .key (IsFlow v) (storable-free v .key) (brought .key) (storable-entryAt v t _ (s .octets) .key) in
+        ⊎-elim (λ free. rw free (storable-free v)) (λ sound. storable-entry v now (stored e) sound now-small (left .sound .typed) fits) entry-sound
 
   left-view : (o : Outcome connections) → LeftBy (tableOf v t) a o → tableOf v (tableAfter v t o) ≡ after connections (tableOf v t) o
   left-view (Blocked n) left = refl
-  left-view (Passed p now e) left = view-after v t p now e (left .inside) (now-small p now e left) (entry-typed p now e left)
+  left-view (Passed p now e) left = view-after v t p now e (left .inside) (now-small p now e left) (entry-storable p now e left)
 
   left-sound : (o : Outcome connections) → LeftBy (tableOf v t) a o → SoundBytes v (tableAfter v t o)
   left-sound (Blocked n) left = s
   left-sound (Passed p now e) left =
       let later : headerClock t ≤ now = omega (arith, left .clock) in
-      sound-after v t p now (stored e) s (left .inside) (now-small p now e left) later (entry-typed p now e left) (entry-sound p now e left)
+      sound-after v t p now (stored e) s (left .inside) (now-small p now e left) later (entry-storable p now e left) (entry-sound p now e left)
 
   -- the call's own outcome
   abbrev outcome : Outcome connections
@@ -73,7 +73,7 @@ module _ (v : Version) (t : List ℕ) (a : Ask) (s : SoundBytes v t) (brought : 
 
   left-by : LeftBy (tableOf v t) a outcome
   left-by =
-      filter-left (tableOf v t) a (sound-view v t s) (typed-view v t s) (brought .side)
+      filter-left (tableOf v t) a (sound-view v t s) (storable-view v t s) (brought .side)
       (readable-placeable (a .segment) (brought .segment))
 
   outcome-view : tableOf v (tableAfter v t outcome) ≡ after connections (tableOf v t) outcome

@@ -1,5 +1,5 @@
 pub mod Reading
-pub mod Typed
+pub mod Storable
 pub mod Frame
 pub mod View
 pub mod Sound

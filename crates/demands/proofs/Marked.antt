@@ -19,7 +19,7 @@ use Rattle.connection.specs.Sound.{soundFins, soundEnd, soundUnanswered, soundC
 use Rattle.rows.specs.Rows as rows
 use Rattle.rows.specs.Rows.{Ask, View, Passed, filter, answerOf, placeBy}
 use Rattle.rows.specs.Connections.{connections}
-use Rattle.entry.specs.Typed.{Typed}
+use Rattle.entry.specs.Storable.{Storable}
 use Rattle.entry.specs.Viewed.{stored}
 use Rattle.entry.proofs.Places.{next-place}
 use Rattle.table.specs.Table.{headerClock}
@@ -99,8 +99,8 @@ stateK-is : Is stateKBytes stateK
 unfolding stateKBytes
 stateK-is = next-is openedBytes opened packet2 opened-is (all-read .1)
 
-typed11 : Typed V4 (stored entry11)
-typed11 = record {
+storable11 : Storable V4 (stored entry11)
+storable11 = record {
   stage = omega arith;
   side = omega arith;
   fins = omega arith;
@@ -119,8 +119,8 @@ sound11 = refl
 written11-is : (t : List ℕ) → Is t empty → Is (tableAfter V4 t (Passed 0 0 entry11)) state11
 written11-is t is =
     let zero-clock : headerClock t ≡ 0 = ap (λ (u : View connections). u .clock) (is .1) in (
-      sound-after V4 t 0 0 (stored entry11) (is .0) (some-place t (is .0)) (omega arith) (omega arith) typed11 (inr sound11),
-      view-after V4 t 0 0 entry11 (some-place t (is .0)) (omega arith) typed11 ∙ ap (λ u. rows.after connections u (Passed 0 0 entry11)) (is .1),
+      sound-after V4 t 0 0 (stored entry11) (is .0) (some-place t (is .0)) (omega arith) (omega arith) storable11 (inr sound11),
+      view-after V4 t 0 0 entry11 (some-place t (is .0)) (omega arith) storable11 ∙ ap (λ u. rows.after connections u (Passed 0 0 entry11)) (is .1),
     )
 
 state11-is : Is state11Bytes state11

@@ -7,11 +7,11 @@ use Rattle.octets.specs.Octets.{Octets}
 use Rattle.address.specs.declared.Version.{Version}
 use Rattle.connection.specs.Ends.{sender}
 use Rattle.connection.specs.declared.End.{End}
-use Rattle.history.specs.Records.{Fits}
+use Rattle.history.specs.Records.{SeqNumsFit}
 use Rattle.entry.specs.Layout.{placeAt, connectionAt, entryAt}
-use Rattle.entry.specs.Typed.{TypedEnd}
+use Rattle.entry.specs.Storable.{StorableEnd}
 use Rattle.entry.specs.Viewed.{viewed}
-use Rattle.entry.proofs.Octets.{typed-entryAt}
+use Rattle.entry.proofs.Octets.{storable-entryAt}
 use Rattle.table.proofs.Facts.{table-facts}
 use Rattle.filter.specs.Call.{placesIn, tableOf}
 use Rattle.filter.proofs.Free.{zeros-free}
@@ -25,14 +25,14 @@ sound-view v t s p inside =
     (table-facts v t (placesIn v t) (s .sound) .places p inside)
 
 -- its connections are within their types
-typed-fits : {x : End} → TypedEnd x → Fits x
-typed-fits typed = record { end = typed .end; edge = typed .edge }
+storable-fits : {x : End} → StorableEnd x → SeqNumsFit x
+storable-fits storable = record { end = storable .end; edge = storable .edge }
 
-typed-connectionAt : (v : Version) (t : List ℕ) (at : ℕ) → Octets t → honest.Typed (entryAt v t at .connection)
+storable-connectionAt : (v : Version) (t : List ℕ) (at : ℕ) → Octets t → honest.TwoEnded (entryAt v t at .connection)
 unfolding entryAt connectionAt
-typed-connectionAt v t at octets =
-    let typed = typed-entryAt v t at octets in
-    (sender (entryAt v t at .connection .ends), record { two = refl; opener = typed-fits (typed .opener); answerer = typed-fits (typed .answerer) })
+storable-connectionAt v t at octets =
+    let storable = storable-entryAt v t at octets in
+    (sender (entryAt v t at .connection .ends), record { two = refl; opener = storable-fits (storable .opener); answerer = storable-fits (storable .answerer) })
 
-pub typed-view : (v : Version) (t : List ℕ) → SoundBytes v t → honest.TypedView (tableOf v t)
-typed-view v t s p inside = typed-connectionAt v t (placeAt v p) (s .octets)
+pub storable-view : (v : Version) (t : List ℕ) → SoundBytes v t → honest.TwoEndedView (tableOf v t)
+storable-view v t s p inside = storable-connectionAt v t (placeAt v p) (s .octets)

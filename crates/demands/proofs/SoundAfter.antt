@@ -17,7 +17,7 @@ use Rattle.address.specs.declared.Version.{Version}
 use Rattle.connection.specs.Sound.{soundConnection}
 use Rattle.connection.proofs.Sound.{later-sound}
 use Rattle.entry.specs.Layout.{entrySize, placeAt, entryBytes, entryAt}
-use Rattle.entry.specs.Typed.{Typed}
+use Rattle.entry.specs.Storable.{Storable}
 use Rattle.entry.specs.declared.Entry.{Entry}
 use Rattle.entry.proofs.Agree.{entryAt-agree, zeroBytes-agree}
 use Rattle.entry.proofs.Octets.{octets-entryBytes, zeroBytes-entryBytes}
@@ -55,7 +55,7 @@ module _ (v : Version) where
 
   module _
       (t : List ℕ) (p now : ℕ) (e : Entry) (s : SoundBytes v t) (inside : p < placesIn v t) (small : now < 2 ^ 48)
-      (later : headerClock t ≤ now) (typed : Typed v e) (new : (e ≡ freeEntry) ⊎ (soundConnection now (e .connection) ≡ true)) where
+      (later : headerClock t ≤ now) (storable : Storable v e) (new : (e ≡ freeEntry) ⊎ (soundConnection now (e .connection) ≡ true)) where
     -- with the clock written, and then the entry
     abbrev clocked : List ℕ
     clocked = overwrite t 0 (octetsOf 8 now)
@@ -67,7 +67,7 @@ module _ (v : Version) where
     clocked-octets = octets-overwrite t 0 (octetsOf 8 now) (s .octets) (octets-octetsOf 8 now)
 
     octets-after : Octets after
-    octets-after = octets-overwrite clocked (placeAt v p) (entryBytes v e) clocked-octets (octets-entryBytes v e typed)
+    octets-after = octets-overwrite clocked (placeAt v p) (entryBytes v e) clocked-octets (octets-entryBytes v e storable)
 
     facts-before : SoundFacts v t (placesIn v t)
     facts-before = table-facts v t (placesIn v t) (s .sound)
@@ -78,7 +78,7 @@ module _ (v : Version) where
         by : (q =ᵇ p ≡ true) ⊎ (q =ᵇ p ≡ false) → SoundPlace v now after (placeAt v q)
         by (inl same) =
             rw (eqb-true q p same)
-            (written-sound now e after (placeAt v p) (place-same v t p now e inside) (entry-same v t p now e inside typed) new)
+            (written-sound now e after (placeAt v p) (place-same v t p now e inside) (entry-same v t p now e inside storable) new)
         by (inr differs) =
             let other = place-other v t p now e inside q (eqb-false q p differs) in
             place-agree (headerClock t) now after (placeAt v q) t (placeAt v q) other later (facts-before .places q h)
@@ -104,7 +104,7 @@ module _ (v : Version) where
 
   -- a pass that writes a free entry or a sound one leaves the bytes sound
   pub sound-after :
-      (t : List ℕ) (p now : ℕ) (e : Entry) → SoundBytes v t → p < placesIn v t → now < 2 ^ 48 → headerClock t ≤ now → Typed v e →
+      (t : List ℕ) (p now : ℕ) (e : Entry) → SoundBytes v t → p < placesIn v t → now < 2 ^ 48 → headerClock t ≤ now → Storable v e →
       ((e ≡ freeEntry) ⊎ (soundConnection now (e .connection) ≡ true)) →
       SoundBytes v (withEntry v t p now e)
-  sound-after t p now e s inside small later typed new = bytes-after t p now e s inside small later typed new
+  sound-after t p now e s inside small later storable new = bytes-after t p now e s inside small later storable new

@@ -11,21 +11,21 @@ use Rattle.rows.specs.Rows as rows
 use Rattle.rows.specs.Rows.{Passed}
 use Rattle.rows.specs.Connections.{connections}
 use Rattle.entry.specs.Layout.{placeAt, entryAt}
-use Rattle.entry.specs.Typed.{Typed}
+use Rattle.entry.specs.Storable.{Storable}
 use Rattle.entry.specs.Viewed.{viewed, stored}
 use Rattle.filter.specs.Call.{placesIn, tableOf, tableAfter}
 use Rattle.demands.proofs.Frame.{placesIn-after, clock-after, entry-same, entry-other}
 
 module _
     (v : Version) (t : List ℕ) (p now : ℕ) (e : rows.Entry connections) (inside : p < placesIn v t) (small : now < 2 ^ 48)
-    (typed : Typed v (stored e)) where
+    (storable : Storable v (stored e)) where
   abbrev after : List ℕ
   after = tableAfter v t (Passed p now e)
 
   entry-after : (q : ℕ) → viewed (entryAt v after (placeAt v q)) ≡ (if q =ᵇ p then e else viewed (entryAt v t (placeAt v q)))
   entry-after q =
       if-cases (λ x. viewed (entryAt v after (placeAt v q)) ≡ x) (q =ᵇ p) e (viewed (entryAt v t (placeAt v q)))
-      (λ same. ap (λ r. viewed (entryAt v after (placeAt v r))) (eqb-true q p same) ∙ ap viewed (entry-same v t p now (stored e) inside typed))
+      (λ same. ap (λ r. viewed (entryAt v after (placeAt v r))) (eqb-true q p same) ∙ ap viewed (entry-same v t p now (stored e) inside storable))
       (λ differs. ap viewed (entry-other v t p now (stored e) inside q (eqb-false q p differs)))
 
   -- a pass on bytes is the pass on their view

@@ -19,30 +19,30 @@ use Rattle.connection.specs.declared.Connection.{Connection}
 use Rattle.connection.specs.declared.End.{End}
 use Rattle.entry.specs.Layout.{restSize, addressesAt, portsAt, numbersAt, restAt, endAt, connectionAt, entryAt}
 use Rattle.entry.specs.Layout.{endBytes, marksBytes, flowBytes, numbersBytes, entryBytes}
-use Rattle.entry.specs.Typed.{TypedEnd, Typed}
+use Rattle.entry.specs.Storable.{StorableEnd, Storable}
 use Rattle.entry.specs.declared.Entry.{Entry}
 use Rattle.entry.proofs.Agree.{ZeroBytes}
 
 -- Read from octets
 
-typed-endAt : (t : List ℕ) (at : ℕ) → Octets t → TypedEnd (endAt t at)
-typed-endAt t at octets = record {
+storable-endAt : (t : List ℕ) (at : ℕ) → Octets t → StorableEnd (endAt t at)
+storable-endAt t at octets = record {
   end = bigEndian<256^n 4 t at octets;
   edge = bigEndian<256^n 4 t (at + 4) octets;
   win = bigEndian<256^n 4 t (at + 8) octets;
 }
 
-pub typed-entryAt : (v : Version) (t : List ℕ) (at : ℕ) → Octets t → Typed v (entryAt v t at)
+pub storable-entryAt : (v : Version) (t : List ℕ) (at : ℕ) → Octets t → Storable v (entryAt v t at)
 unfolding entryAt connectionAt
-typed-entryAt v t at octets = record {
+storable-entryAt v t at octets = record {
   stage = octets at;
   side = octets (at + 1);
   fins = octets (at + 2);
   key = fits-flowAt v t (addressesAt at) (portsAt v at) octets;
   deadline = bigEndian<256^n 8 t (numbersAt v at) octets;
   two-ends = refl;
-  opener = typed-endAt t (numbersAt v at + 8) octets;
-  answerer = typed-endAt t (numbersAt v at + 20) octets;
+  opener = storable-endAt t (numbersAt v at + 8) octets;
+  answerer = storable-endAt t (numbersAt v at + 20) octets;
 }
 
 -- Stored
@@ -51,9 +51,9 @@ bytes-endBytes : (x : End) → Bytes (endBytes x)
 unfolding endBytes
 bytes-endBytes x = bytes-++ (bytes-octetsOf 4 (x .end .0)) (bytes-++ (bytes-octetsOf 4 (x .edge .0)) (bytes-octetsOf 4 (x .win .0)))
 
-bytes-marksBytes : (v : Version) (e : Entry) → Typed v e → Bytes (marksBytes (e .connection))
+bytes-marksBytes : (v : Version) (e : Entry) → Storable v e → Bytes (marksBytes (e .connection))
 unfolding marksBytes
-bytes-marksBytes v e typed = bytes-∷ (typed .stage) (bytes-∷ (typed .side) (bytes-∷ (typed .fins) (bytes-∷ (omega arith) bytes-[])))
+bytes-marksBytes v e storable = bytes-∷ (storable .stage) (bytes-∷ (storable .side) (bytes-∷ (storable .fins) (bytes-∷ (omega arith) bytes-[])))
 
 bytes-numbersBytes : (c : Connection) → Bytes (numbersBytes c)
 unfolding numbersBytes
@@ -66,14 +66,14 @@ bytes-flowBytes v k =
     bytes-++ (bytes-addressOctets v (k .from .address))
     (bytes-++ (bytes-addressOctets v (k .to .address)) (bytes-++ (bytes-octetsOf 2 (k .from .port)) (bytes-octetsOf 2 (k .to .port))))
 
-bytes-entryBytes : (v : Version) (e : Entry) → Typed v e → Bytes (entryBytes v e)
+bytes-entryBytes : (v : Version) (e : Entry) → Storable v e → Bytes (entryBytes v e)
 unfolding entryBytes
-bytes-entryBytes v e typed =
-    bytes-++ (bytes-marksBytes v e typed)
+bytes-entryBytes v e storable =
+    bytes-++ (bytes-marksBytes v e storable)
     (bytes-++ (bytes-flowBytes v (e .key)) (bytes-++ (bytes-numbersBytes (e .connection)) (bytes-replicate (restSize v))))
 
-pub octets-entryBytes : (v : Version) (e : Entry) → Typed v e → Octets (entryBytes v e)
-octets-entryBytes v e typed = bytes-entryBytes v e typed .small
+pub octets-entryBytes : (v : Version) (e : Entry) → Storable v e → Octets (entryBytes v e)
+octets-entryBytes v e storable = bytes-entryBytes v e storable .small
 
 -- its zero bytes are zero
 pub zeroBytes-entryBytes : (v : Version) (e : Entry) → ZeroBytes v (entryBytes v e) 0

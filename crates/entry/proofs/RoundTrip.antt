@@ -22,7 +22,7 @@ use Rattle.connection.specs.declared.End.{End}
 use Rattle.entry.specs.Layout.{restSize, blankAt, addressesAt, portsAt, numbersAt, restAt, entrySize, endAt, connectionAt, entryAt}
 use Rattle.entry.specs.Layout.{endBytes, marksBytes, flowBytes, numbersBytes, entryBytes}
 use Rattle.entry.specs.RoundTrip.{StoredIsRead, FreeIsZeros}
-use Rattle.entry.specs.Typed.{TypedEnd, Typed}
+use Rattle.entry.specs.Storable.{StorableEnd, Storable}
 use Rattle.entry.specs.declared.Entry.{Entry}
 use Rattle.entry.proofs.Sizes.{length-entryBytes}
 use Rattle.entry.proofs.Agree.{ZeroBytes, entryAt-agree}
@@ -68,7 +68,7 @@ entry-again V4 e = refl
 entry-again V6 e = refl
 
 -- within its type, each is what it was
-end-back : (x : End) → TypedEnd x → endAgain x ≡ x
+end-back : (x : End) → StorableEnd x → endAgain x ≡ x
 end-back x small =
     let end = bigEndian-octetsOf 4 (x .end .0) (small .end) in
     let edge = bigEndian-octetsOf 4 (x .edge .0) (small .edge) in
@@ -81,17 +81,17 @@ endpoint-back v x fits small =
     let port = bigEndian-octetsOf 2 (x .port) small in
     λ i. record { address = address i; port = port i }
 
-entry-back : (v : Version) (e : Entry) → Typed v e → entryAgain v e ≡ e
-entry-back v e typed =
+entry-back : (v : Version) (e : Entry) → Storable v e → entryAgain v e ≡ e
+entry-back v e storable =
     let k = e .key in
     let c = e .connection in
-    let from = endpoint-back v (k .from) (typed .key .from-address) (typed .key .from-port) in
-    let to = endpoint-back v (k .to) (typed .key .to-address) (typed .key .to-port) in
-    let deadline = bigEndian-octetsOf 8 (c .deadline) (typed .deadline) in
-    let opener = end-back (sender (c .ends) 0) (typed .opener) in
-    let answerer = end-back (sender (c .ends) 1) (typed .answerer) in
+    let from = endpoint-back v (k .from) (storable .key .from-address) (storable .key .from-port) in
+    let to = endpoint-back v (k .to) (storable .key .to-address) (storable .key .to-port) in
+    let deadline = bigEndian-octetsOf 8 (c .deadline) (storable .deadline) in
+    let opener = end-back (sender (c .ends) 0) (storable .opener) in
+    let answerer = end-back (sender (c .ends) 1) (storable .answerer) in
     let ends : endAgain (sender (c .ends) 0) ∷ endAgain (sender (c .ends) 1) ∷ [] ≡ c .ends =
-    (λ i. opener i ∷ answerer i ∷ []) ∙ two-elements (c .ends) (typed .two-ends) in
+    (λ i. opener i ∷ answerer i ∷ []) ∙ two-elements (c .ends) (storable .two-ends) in
     λ i. record {
       key = record { from = from i; to = to i };
       connection = record { stage = c .stage; side = c .side; fins = c .fins; deadline = deadline i; ends = ends i };
@@ -99,9 +99,9 @@ entry-back v e typed =
 
 -- what is stored is read back
 pub load-stored : StoredIsRead
-load-stored v t at e fits typed =
+load-stored v t at e fits storable =
     let same = overwrite-agree t at (entryBytes v e) (entrySize v) (length-entryBytes v e) fits in
-    entryAt-agree v (overwrite t at (entryBytes v e)) at (entryBytes v e) 0 same ∙ entry-again v e ∙ entry-back v e typed
+    entryAt-agree v (overwrite t at (entryBytes v e)) at (entryBytes v e) 0 same ∙ entry-again v e ∙ entry-back v e storable
 
 -- Writing what was read
 

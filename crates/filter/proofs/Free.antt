@@ -12,7 +12,7 @@ use Rattle.address.specs.declared.Version.the-variants.{V4, V6}
 use Rattle.rows.specs.Rows as rows
 use Rattle.rows.specs.Connections.{connections}
 use Rattle.entry.specs.Layout.{entrySize, connectionAt, entryAt, endBytes, marksBytes, flowBytes, numbersBytes, entryBytes}
-use Rattle.entry.specs.Typed.{Typed}
+use Rattle.entry.specs.Storable.{Storable}
 use Rattle.entry.specs.Viewed.{stored}
 use Rattle.entry.specs.declared.Entry.{Entry}
 use Rattle.entry.proofs.Agree.{entryAt-agree}
@@ -40,8 +40,8 @@ free-fits V6 = (omega arith, omega arith)
 free-flow : (v : Version) → IsFlow v noFlow
 free-flow v = record { from-address = free-fits v; to-address = free-fits v; from-port = omega arith; to-port = omega arith }
 
-pub typed-free : (v : Version) → Typed v freeEntry
-typed-free v = record {
+pub storable-free : (v : Version) → Storable v freeEntry
+storable-free v = record {
   stage = omega arith;
   side = omega arith;
   fins = omega arith;

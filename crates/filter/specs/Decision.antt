@@ -23,9 +23,9 @@ decisionOf (Blocked n) = record { answer = n; place = nowhere; clock = 0; entry 
 decisionOf (Passed p now e) = record { answer = 0; place = p; clock = now; entry = stored e }
 
 -- the table that a decision leaves
-unfoldable pub written : Version → List ℕ → Decision → List ℕ
-written v t d = if d .answer =ᵇ 0 then withEntry v t (d .place) (d .clock) (d .entry) else t
+unfoldable pub tableLeftBy : Version → List ℕ → Decision → List ℕ
+tableLeftBy v t d = if d .answer =ᵇ 0 then withEntry v t (d .place) (d .clock) (d .entry) else t
 
 -- the entry of a pass lies in the table
-abbrev pub Fits : Version → List ℕ → Decision → Type 0
-Fits v t d = d .answer ≡ 0 → placeAt v (d .place) + entrySize v ≤ length t
+abbrev pub PassInside : Version → List ℕ → Decision → Type 0
+PassInside v t d = d .answer ≡ 0 → placeAt v (d .place) + entrySize v ≤ length t

@@ -9,7 +9,7 @@ ghost use Rattle.rows.specs.Connections.{connections};
 ghost use Rattle.table.specs.Table.{headerClock, viewOf};
 ghost use Rattle.filter.specs.Length.{legalLength, placesFor};
 ghost use Rattle.filter.specs.Call.{rows5to10, outcomeOf, ipv4Outcome, replyOf, tableAfter};
-ghost use Rattle.filter.specs.Decision.{tableRefusal, decisionOf, written, Fits};
+ghost use Rattle.filter.specs.Decision.{tableRefusal, decisionOf, tableLeftBy, PassInside};
 use address::Address;
 use address::Endpoint;
 use address::Flow;
@@ -142,7 +142,7 @@ fn on_entry(entry: Entry, place: usize, clock: u64, side: u8, segment: Segment) 
 }
 
 // The entry that an opening SYN makes.
-fn opening(clock: u64, side: u8, flow: Flow, segment: Segment) -> Entry
+fn opening_entry(clock: u64, side: u8, flow: Flow, segment: Segment) -> Entry
     requires { ⌜ clock < 2 ^ 48 ⌝ }
     ensures { λ r. ⌜ r ≡ stored (openingEntry connections clock side flow segment) ⌝ }
 {
@@ -174,7 +174,7 @@ fn unmatched(
         2 => {
             let found = vacant(version, table, places, clock);
             match found {
-                Found::At(place) => passed(place, clock, opening(clock, side, flow, segment)),
+                Found::At(place) => passed(place, clock, opening_entry(clock, side, flow, segment)),
                 Found::Nothing => blocked(12),
             }
         }
@@ -204,8 +204,8 @@ fn on_segment(
 
 // A pass stores the clock used and its entry; every other answer changes no byte.
 fn commit(version: Version, table: &mut [u8], decision: Decision)
-    requires { ⌜ Fits version (now table) decision ⌝ }
-    ensures { λ r. ⌜ now (table .exit) ≡ written version (now (table .entry)) decision ⌝ }
+    requires { ⌜ PassInside version (now table) decision ⌝ }
+    ensures { λ r. ⌜ now (table .exit) ≡ tableLeftBy version (now (table .entry)) decision ⌝ }
 {
     if decision.answer != 0 {
         return;

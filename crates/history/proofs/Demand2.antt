@@ -20,7 +20,7 @@ use Rattle.connection.specs.declared.Verdict.{Verdict}
 use Rattle.connection.specs.declared.Verdict.the-variants.{Pass, NotAllowed, SequenceMissed, AckMissed}
 use Rattle.history.specs.Numbers.{Numbers}
 use Rattle.history.specs.History.{LineSegment, numbersOf, onWire, standsBy, placedBy, placed, judge, Holds, Formed, Placeable}
-use Rattle.history.specs.Demand2.{Presented, Legal, AllLegal, onLine, answerTo, judgedOver, leftBy, passes, connectionAfter, historyAfter, NoReset, openingHistory, Agree, Demand2OfConnection}
+use Rattle.history.specs.Demand2.{Presented, Presentable, AllPresentable, onLine, answerTo, judgedOver, leftBy, isPass, connectionAfter, historyAfter, NoReset, openingHistory, Agree, Demand2OfConnection}
 use Rattle.history.proofs.Step.{Near}
 use Rattle.history.proofs.Verdict.{Unanswered, Answered, judged-answered, judged-unanswered}
 use Rattle.history.proofs.Pass.{opener-begins, opened-unanswered, opened-holds, answerer-begins, carried-holds, carried-answered, repeated-holds, repeated-unanswered, answered-holds, answered-answered}
@@ -76,7 +76,7 @@ numbers-rise : (i : ℕ) (p : LineSegment) (h : List LineSegment) → numbersOf 
 unfolding numbersOf
 numbers-rise i p h = omega arith
 
-module _ (c : Connection) (h : List LineSegment) (holds : Holds c h) (reached : Reached h) (o : Presented) (legal : Legal o) where
+module _ (c : Connection) (h : List LineSegment) (holds : Holds c h) (reached : Reached h) (o : Presented) (legal : Presentable o) where
   wire : onWire (onLine h o) ≡ o .segment
   wire =
       onWire-placedBy (numbersOf (o .sender) h .end) (numbersOf (1 - o .sender) h .end) (o .sender) (o .segment) (legal .placeable)
@@ -142,27 +142,27 @@ reset-frees c o reset = if-= _ _ reset
 
 -- The theorem, from any history reached
 
-module _ (c : Connection) (h : List LineSegment) (holds : Holds c h) (reached : Reached h) (o : Presented) (legal : Legal o) where
+module _ (c : Connection) (h : List LineSegment) (holds : Holds c h) (reached : Reached h) (o : Presented) (legal : Presentable o) where
   module _ (no-reset : judgedOver h o ≡ Pass → rst (o .segment .flags) ≡ 1 → ⊥) where
     by-answer :
         (v : Verdict) → judgedOver h o ≡ v →
-        let h' = if passes v then onLine h o ∷ h else h in Holds (if passes v then leftBy c o else c) h' × Reached h'
+        let h' = if isPass v then onLine h o ∷ h else h in Holds (if isPass v then leftBy c o else c) h' × Reached h'
     unfolding if_then_else_
     by-answer Pass e = pass-holds c h holds reached o legal (no-reset e) e
     by-answer NotAllowed e = (holds, reached)
     by-answer SequenceMissed e = (holds, reached)
     by-answer AckMissed e = (holds, reached)
 
-    step : let h' = if passes (judgedOver h o) then onLine h o ∷ h else h in Holds (if passes (answerTo c o) then leftBy c o else c) h' × Reached h'
+    step : let h' = if isPass (judgedOver h o) then onLine h o ∷ h else h in Holds (if isPass (answerTo c o) then leftBy c o else c) h' × Reached h'
     step = rw (judged c h holds reached o legal) (by-answer (judgedOver h o) refl)
 
   pub agree : Agree c h o
   agree = record { holds = holds; answer = judged c h holds reached o legal; freed = λ pass reset. reset-frees c o reset }
 
 pub after-all :
-    (c : Connection) (h : List LineSegment) → Holds c h → Reached h → (l : List Presented) → AllLegal l → NoReset h l →
+    (c : Connection) (h : List LineSegment) → Holds c h → Reached h → (l : List Presented) → AllPresentable l → NoReset h l →
     Holds (connectionAfter c l) (historyAfter h l) × Reached (historyAfter h l)
-unfolding AllLegal NoReset connectionAfter historyAfter
+unfolding AllPresentable NoReset connectionAfter historyAfter
 after-all c h holds reached [] legal no-reset = (holds, reached)
 after-all c h holds reached (o ∷ l) legal no-reset =
     let before = after-all c h holds reached l (legal .1) (no-reset .0) in

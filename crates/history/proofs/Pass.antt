@@ -13,7 +13,7 @@ use Rattle.serial.specs.Ring.{wrap}
 use Rattle.serial.proofs.Ring.{wrap-plus}
 use Rattle.segment.specs.Flags.{fin, syn, rst, ack, SYN, SYN+ACK, ACK+RST}
 use Rattle.segment.specs.declared.Segment.{Segment}
-use Rattle.connection.specs.Ends.{unheard, sender, sent, granted, opening, written}
+use Rattle.connection.specs.Ends.{unheard, sender, sent, granted, begun, endsAfter}
 use Rattle.connection.specs.Ranges.{ackRange}
 use Rattle.connection.specs.Stages.{finsAfter, stageAfter}
 use Rattle.connection.specs.Decision.{opened, repeated, answered, carried, passed}
@@ -81,16 +81,16 @@ module _ (h : List LineSegment) (p : LineSegment) (no-reset : rst (p .flags) ≡
 
 pub written-acked :
     (x y : ℕ → End) (i : ℕ) (g : Segment) → i < 2 → ack (g .flags) ≡ 1 → sent (x i) g ≡ y i → granted (x (1 - i)) g ≡ y (1 - i) →
-    written (x 0 ∷ x 1 ∷ []) i g ≡ y 0 ∷ y 1 ∷ []
-unfolding written
+    endsAfter (x 0 ∷ x 1 ∷ []) i g ≡ y 0 ∷ y 1 ∷ []
+unfolding endsAfter
 written-acked x y zero g side acks f t = if-= _ _ acks ∙ λ k. f k ∷ t k ∷ []
 written-acked x y (suc zero) g side acks f t = if-= _ _ acks ∙ λ k. t k ∷ f k ∷ []
 written-acked x y (suc (suc i)) g side acks f t = absurd (omega arith)
 
 pub written-unacked :
     (x y : ℕ → End) (i : ℕ) (g : Segment) → i < 2 → (ack (g .flags) ≡ 1 → ⊥) → sent (x i) g ≡ y i → x (1 - i) ≡ y (1 - i) →
-    written (x 0 ∷ x 1 ∷ []) i g ≡ y 0 ∷ y 1 ∷ []
-unfolding written
+    endsAfter (x 0 ∷ x 1 ∷ []) i g ≡ y 0 ∷ y 1 ∷ []
+unfolding endsAfter
 written-unacked x y zero g side silent f t = if-=-not _ _ silent ∙ λ k. f k ∷ t k ∷ []
 written-unacked x y (suc zero) g side silent f t = if-=-not _ _ silent ∙ λ k. t k ∷ f k ∷ []
 written-unacked x y (suc (suc i)) g side silent f t = absurd (omega arith)
@@ -170,12 +170,12 @@ module _ (c : Connection) (h : List LineSegment) (holds : Holds c h) (p : LineSe
             (grantedTo-spans (numbersOf (1 - p .from) h) (p .acked) (p .window) T (acked-bounds acks .0) (formed .window-fits))
         by-ack false e = rw (numbers-unacked h p no-reset (1 - p .from) apart (eqb-false (ack (p .flags)) 1 e)) T
 
-    records-after : written (onRing (numbersOf 0 h) ∷ onRing (numbersOf 1 h) ∷ []) (p .from) (onWire p) ≡ onRing (numbersOf 0 (p ∷ h)) ∷ onRing (numbersOf 1 (p ∷ h)) ∷ []
+    records-after : endsAfter (onRing (numbersOf 0 h) ∷ onRing (numbersOf 1 h) ∷ []) (p .from) (onWire p) ≡ onRing (numbersOf 0 (p ∷ h)) ∷ onRing (numbersOf 1 (p ∷ h)) ∷ []
     records-after = by-ack (eqb (ack (p .flags)) 1) refl
       where
         by-ack :
             (t : Bool) → eqb (ack (p .flags)) 1 ≡ t →
-            written (onRing (numbersOf 0 h) ∷ onRing (numbersOf 1 h) ∷ []) (p .from) (onWire p) ≡ onRing (numbersOf 0 (p ∷ h)) ∷ onRing (numbersOf 1 (p ∷ h)) ∷ []
+            endsAfter (onRing (numbersOf 0 h) ∷ onRing (numbersOf 1 h) ∷ []) (p .from) (onWire p) ≡ onRing (numbersOf 0 (p ∷ h)) ∷ onRing (numbersOf 1 (p ∷ h)) ∷ []
         by-ack true e =
             let acks = eqb-true (ack (p .flags)) 1 e in
             written-acked (λ k. onRing (numbersOf k h)) (λ k. onRing (numbersOf k (p ∷ h))) (p .from) (onWire p) side acks sender-after (acked-after acks)
@@ -199,7 +199,7 @@ module _ (c : Connection) (h : List LineSegment) (holds : Holds c h) (p : LineSe
         let later : passed c (p .from) (onWire p) now ≡ carried c (p .from) (onWire p) now =
         if-=-not _ _ no-reset ∙ if-≠ _ _ (λ (e : c .stage ≡ 1). omega (arith, open-h .stage, holds .stage)) in
         rw later
-        record { stage = stage-after; fins = fins-after; ends = ap (λ (l : List End). written l (p .from) (onWire p)) (holds .ends) ∙ records-after }
+        record { stage = stage-after; fins = fins-after; ends = ap (λ (l : List End). endsAfter l (p .from) (onWire p)) (holds .ends) ∙ records-after }
 
     pub carried-answered : Answered (p ∷ h)
     carried-answered =
@@ -250,10 +250,10 @@ syn-ack f no-reset e = by (eqb f SYN+ACK) refl e
     by false p q = absurd (no-reset (rw (eqb-true f ACK+RST q)))
 
 -- the record that a SYN opens
-pub opening-line :
+pub begun-line :
     (p : LineSegment) →
-    opening (onWire p) ≡ onRing (record { end = p .start + 1; edge = p .start + 1; win = max 1 (p .window) })
-opening-line p =
+    begun (onWire p) ≡ onRing (record { end = p .start + 1; edge = p .start + 1; win = max 1 (p .window) })
+begun-line p =
     let win : max (p .window) 1 ≡ max 1 (p .window) = omega arith in
     λ k. record { end = record { 0 = wrap-plus (p .start) 1 k }; edge = record { 0 = wrap-plus (p .start) 1 k }; win = record { 0 = win k } }
 
@@ -360,7 +360,7 @@ module _ (c : Connection) (h : List LineSegment) (holds : Holds c h) (p : LineSe
         if-=-not _ _ no-reset ∙ if-≠-not _ _ (holds .stage ∙ unanswered .stage) ∙ if-=-not _ _ not-opener in
         let opener : granted (sender (c .ends) 0) (onWire p) ≡ onRing (numbersOf 0 (p ∷ h)) =
         ap (λ (l : List End). granted (sender l 0) (onWire p)) (holds .ends) ∙ opener-raised in
-        let answerer : opening (onWire p) ≡ onRing (numbersOf 1 (p ∷ h)) = opening-line p ∙ ap onRing (sym answerer-begins) in
+        let answerer : begun (onWire p) ≡ onRing (numbersOf 1 (p ∷ h)) = begun-line p ∙ ap onRing (sym answerer-begins) in
         rw second
         record {
           stage = sym (stage-answered h p no-reset (unanswered .stage) not-opener);
@@ -428,6 +428,6 @@ module _ (p : LineSegment) (opener : p .from ≡ 0) (a-syn : p .flags ≡ SYN) (
   pub opened-holds : (side now : ℕ) → Holds (opened side (onWire p) now) (p ∷ [])
   unfolding opened
   opened-holds side now =
-      let opener-record : opening (onWire p) ≡ onRing (numbersOf 0 (p ∷ [])) = opening-line p ∙ ap onRing (sym opener-begins) in
+      let opener-record : begun (onWire p) ≡ onRing (numbersOf 0 (p ∷ [])) = begun-line p ∙ ap onRing (sym opener-begins) in
       let answerer-record : unheard ≡ onRing (numbersOf 1 (p ∷ [])) = unheard-line ∙ ap onRing (sym answerer-unheard) in
       record { stage = sym stage-opened; fins = sym fins-opened; ends = λ k. opener-record k ∷ answerer-record k ∷ [] }

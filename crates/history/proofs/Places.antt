@@ -22,7 +22,7 @@ use Rattle.history.specs.Numbers.{Numbers, boundsI-II, boundsIII-IV}
 use Rattle.history.specs.History.{LineSegment, numbersOf, stageOf, standsBy, judge, Holds, Placeable}
 use Rattle.history.proofs.Step.{Near, start-near, ack-near, ackRange-small}
 use Rattle.history.proofs.Verdict.{Answered, spans}
-use Rattle.history.specs.Demand2.{Presented, Legal, connectionAfter, historyAfter, openingHistory, OnePlace, Uniqueness}
+use Rattle.history.specs.Demand2.{Presented, Presentable, connectionAfter, historyAfter, openingHistory, OnePlace, Uniqueness}
 use Rattle.history.proofs.Demand2.{stands-nearest, wrap-stands, Reached, unanswered, answered, judged, after-all, holds-first, reached-first}
 
 pub readable-placeable : (g : Segment) → Readable g → Placeable g
@@ -124,7 +124,7 @@ module _ (c : Connection) (h : List LineSegment) (holds : Holds c h) (both-heard
       )
 
 one-place :
-    (c : Connection) (h : List LineSegment) → Holds c h → Reached h → (stageOf h ≡ 1 → ⊥) → (o : Presented) → Legal o →
+    (c : Connection) (h : List LineSegment) → Holds c h → Reached h → (stageOf h ≡ 1 → ⊥) → (o : Presented) → Presentable o →
     OnePlace c h o
 one-place c h holds (unanswered u turned) later o legal = absurd (later (u .stage))
 one-place c h holds (answered a turned) later o legal = record {

@@ -14,7 +14,7 @@ use Rattle.serial.specs.Ring.{wrap, ringPlus, ringMinus}
 use Rattle.serial.proofs.Ring.{wrap-injective, wrap-minus, wrap-counted, wrap-turn, wrap-id}
 use Rattle.segment.specs.Flags.{rst, ack, SYN+ACK, ACK+RST}
 use Rattle.segment.specs.declared.Segment.{Segment}
-use Rattle.connection.specs.Ends.{sender, other, sent, granted, opening, written}
+use Rattle.connection.specs.Ends.{sender, receiver, sent, granted, begun, endsAfter}
 use Rattle.connection.specs.Ranges.{sequenceMet, ackRange, ackMet}
 use Rattle.connection.specs.Stages.{finsAfter, stageAfter}
 use Rattle.connection.specs.Decision.{opened, repeated, answered, carried, passed, sameSyn, reply, verdictUnanswered, verdictByRanges, verdictOn}
@@ -26,10 +26,10 @@ use Rattle.connection.proofs.Stages.{stageAfter≥2}
 use Rattle.connection.proofs.Sound.{soundFins-to-3, soundFins≤3, finsAfter≤3, stageAfter-sound, soundEnd-true, true-soundEnd, widened-sound, unheard-sound, lifeOf≤, Facts, sound-facts, facts-sound}
 use Rattle.history.specs.Numbers.{Numbers, onRing}
 use Rattle.history.specs.History.{LineSegment, onWire, placedBy, Formed, Placeable}
-use Rattle.history.specs.Records.{Fits, TwoEnds}
+use Rattle.history.specs.Records.{SeqNumsFit, TwoEnds}
 use Rattle.history.proofs.Step.{Spans, Near, sequence-line, ackRange-small, ack-line, sent-line, granted-line, sentTo-spans, grantedTo-spans}
-use Rattle.history.proofs.Verdict.{two-sender, two-other}
-use Rattle.history.proofs.Pass.{opening-line, ranges-met, allowed, of-answerer}
+use Rattle.history.proofs.Verdict.{two-sender, two-receiver}
+use Rattle.history.proofs.Pass.{begun-line, ranges-met, allowed, of-answerer}
 use Rattle.history.proofs.Demand2.{stands-near, onWire-placedBy, placed-formed, pick-two}
 
 -- One record
@@ -38,7 +38,7 @@ use Rattle.history.proofs.Demand2.{stands-near, onWire-placedBy, placed
 abbrev pub lifted : End → Numbers
 lifted e = record { end = e .end .0 + 2 ^ 32; edge = e .end .0 + 2 ^ 32 + ringMinus (e .edge .0) (e .end .0); win = e .win .0 }
 
-pub onRing-lifted : (e : End) → Fits e → onRing (lifted e) ≡ e
+pub onRing-lifted : (e : End) → SeqNumsFit e → onRing (lifted e) ≡ e
 onRing-lifted e f =
     let up : wrap (e .end .0 + 2 ^ 32) ≡ e .end .0 = wrap-turn (e .end .0) ∙ wrap-id (e .end .0) (f .end) in
     let edge : wrap (e .end .0 + 2 ^ 32 + ringMinus (e .edge .0) (e .end .0)) ≡ e .edge .0 =
@@ -57,7 +57,7 @@ spans-sound x s =
 
 -- an end that gets a right edge by an acknowledgement of no more than it sent
 granted-sound :
-    (e : End) (p : LineSegment) → Fits e → Formed p → soundEnd e ≡ true → Near (lifted e .end) (p .acked) → p .acked ≤ lifted e .end →
+    (e : End) (p : LineSegment) → SeqNumsFit e → Formed p → soundEnd e ≡ true → Near (lifted e .end) (p .acked) → p .acked ≤ lifted e .end →
     soundEnd (granted e (onWire p)) ≡ true
 granted-sound e p f formed sound near below =
     let s = lifted-spans e sound in
@@ -65,9 +65,9 @@ granted-sound e p f formed sound near below =
     rw (← onRing-lifted e f, line) (spans-sound _ (grantedTo-spans (lifted e) (p .acked) (p .window) s below (formed .window-fits)))
 
 -- an end that a SYN opens
-opening-sound : (p : LineSegment) → Formed p → soundEnd (opening (onWire p)) ≡ true
-opening-sound p formed =
-    rw (opening-line p)
+begun-sound : (p : LineSegment) → Formed p → soundEnd (begun (onWire p)) ≡ true
+begun-sound p formed =
+    rw (begun-line p)
     (spans-sound _ record { begun = omega arith; ordered = omega arith; near = omega arith; win-some = omega arith; win-most = omega (arith, formed .window-fits) })
 
 -- A pass from stage 2 on
@@ -76,14 +76,14 @@ opening-sound p formed =
 both-after :
     (P : End → Type 0) (x : ℕ → End) (i : ℕ) (g : Segment) → i < 2 → P (sent (x i) g) →
     (ack (g .flags) ≡ 1 → P (granted (x (1 - i)) g)) → P (x (1 - i)) →
-    P (sender (written (x 0 ∷ x 1 ∷ []) i g) 0) × P (sender (written (x 0 ∷ x 1 ∷ []) i g) 1)
-unfolding written
+    P (sender (endsAfter (x 0 ∷ x 1 ∷ []) i g) 0) × P (sender (endsAfter (x 0 ∷ x 1 ∷ []) i g) 1)
+unfolding endsAfter
 both-after P x i g side f t u = by-ack (eqb (ack (g .flags)) 1) refl i side f t u
   where
     by-ack :
         (b : Bool) → eqb (ack (g .flags)) 1 ≡ b → (i : ℕ) → i < 2 → P (sent (x i) g) →
         (ack (g .flags) ≡ 1 → P (granted (x (1 - i)) g)) → P (x (1 - i)) →
-        P (sender (written (x 0 ∷ x 1 ∷ []) i g) 0) × P (sender (written (x 0 ∷ x 1 ∷ []) i g) 1)
+        P (sender (endsAfter (x 0 ∷ x 1 ∷ []) i g) 0) × P (sender (endsAfter (x 0 ∷ x 1 ∷ []) i g) 1)
     by-ack true e zero s f t u = rw (if-true (eqb (ack (g .flags)) 1) _ _ e) (f, t (eqb-true _ _ e))
     by-ack true e (suc zero) s f t u = rw (if-true (eqb (ack (g .flags)) 1) _ _ e) (t (eqb-true _ _ e), f)
     by-ack false e zero s f t u = rw (if-false (eqb (ack (g .flags)) 1) _ _ e) (f, u)
@@ -95,8 +95,8 @@ module _ (clock : ℕ) (c : Connection) (x : ℕ → End) (ends : TwoEnds c x) (
   sound-end = pick-two (λ k. soundEnd (x k) ≡ true)
       (rw (ends .two) at (sound .opener)) (rw (ends .two) at (sound .answerer))
 
-  fits : (i : ℕ) → i < 2 → Fits (x i)
-  fits = pick-two (λ k. Fits (x k)) (ends .opener) (ends .answerer)
+  fits : (i : ℕ) → i < 2 → SeqNumsFit (x i)
+  fits = pick-two (λ k. SeqNumsFit (x k)) (ends .opener) (ends .answerer)
 
   -- from stage 2 on
   module _ (later : c .stage ≡ 1 → ⊥) (start : Near (lifted (x (p .from)) .end) (p .start)) (acked : Near (lifted (x (1 - p .from)) .end) (p .acked)) where
@@ -118,8 +118,8 @@ module _ (clock : ℕ) (c : Connection) (x : ℕ → End) (ends : TwoEnds c x) (
     met : (sequenceMet (x (p .from)) (x (1 - p .from)) (onWire p) ≡ true) × (eqb (ack (p .flags)) 1 ≡ true → ackMet ackRange (x (1 - p .from)) (onWire p) ≡ true)
     unfolding verdictOn verdictByRanges
     met =
-        rw (ap (λ (l : List End). sender l (p .from)) (ends .two) ∙ two-sender x (p .from) side, ap (λ (l : List End). other l (p .from)) (ends .two) ∙ two-other x (p .from) side) at
-        (ranges-met (sequenceMet (sender (c .ends) (p .from)) (other (c .ends) (p .from)) (onWire p)) (eqb (ack (p .flags)) 1) (ackMet ackRange (other (c .ends) (p .from)) (onWire p)) (sym (if-=-not _ _ later) ∙ pass))
+        rw (ap (λ (l : List End). sender l (p .from)) (ends .two) ∙ two-sender x (p .from) side, ap (λ (l : List End). receiver l (p .from)) (ends .two) ∙ two-receiver x (p .from) side) at
+        (ranges-met (sequenceMet (sender (c .ends) (p .from)) (receiver (c .ends) (p .from)) (onWire p)) (eqb (ack (p .flags)) 1) (ackMet ackRange (receiver (c .ends) (p .from)) (onWire p)) (sym (if-=-not _ _ later) ∙ pass))
 
     bounds : (lifted (x (p .from)) .end ≤ p .start + lifted (x (1 - p .from)) .win) × (p .start + p .length ≤ lifted (x (p .from)) .edge)
     bounds =
@@ -199,7 +199,7 @@ module _ (clock : ℕ) (c : Connection) (x : ℕ → End) (ends : TwoEnds c x) (
           fins = soundFins-to-3 2 0 (omega arith);
           deadline = omega (arith, lifeOf≤ 2);
           opener = rw (ends .two) (granted-sound (x 0) p (ends .opener) formed (sound-end 0 (omega arith)) near (omega (arith, acks-end answerer near)));
-          answerer = opening-sound p formed;
+          answerer = begun-sound p formed;
           unanswered = if-=-not {a = 2} {b = 1} _ _ (λ (e : 2 ≡ 1). omega arith);
         })
 
@@ -231,7 +231,7 @@ opened-sound side g now known r =
       side = known;
       fins = soundFins-to-3 1 0 (omega arith);
       deadline = omega (arith, lifeOf≤ 1);
-      opener = ap (λ (k : Segment). soundEnd (opening k)) (sym wire) ∙ opening-sound (placedBy 0 0 0 g) (placed-formed 0 0 0 g r);
+      opener = ap (λ (k : Segment). soundEnd (begun k)) (sym wire) ∙ begun-sound (placedBy 0 0 0 g) (placed-formed 0 0 0 g r);
       answerer = unheard-sound;
       unanswered = if-= {a = 1} {b = 1} _ _ refl ∙ rw (eq-eqb (ringPlus (g .seq .0) 1) (ringPlus (g .seq .0) 1) refl);
     }

@@ -12,7 +12,7 @@ use Rattle.choice.proofs.Tests.{eqb≡eqb}
 use Rattle.serial.specs.Ring.{wrap, ringMinus}
 use Rattle.serial.proofs.Ring.{wrap-back, wrap-eqb}
 use Rattle.segment.specs.Flags.{ack, SYN, SYN+ACK, ACK+RST}
-use Rattle.connection.specs.Ends.{sender, other}
+use Rattle.connection.specs.Ends.{sender, receiver}
 use Rattle.connection.specs.Ranges.{sequenceMet, ackRange, ackMet}
 use Rattle.connection.specs.Decision.{sameSyn, reply, verdictUnanswered, verdictByRanges, verdictOn}
 use Rattle.connection.specs.declared.Connection.{Connection}
@@ -43,10 +43,10 @@ two-sender x zero h = refl
 two-sender x (suc zero) h = refl
 two-sender x (suc (suc i)) h = absurd (omega arith)
 
-pub two-other : (x : ℕ → End) (i : ℕ) → i < 2 → other (x 0 ∷ x 1 ∷ []) i ≡ x (1 - i)
-two-other x zero h = refl
-two-other x (suc zero) h = refl
-two-other x (suc (suc i)) h = absurd (omega arith)
+pub two-receiver : (x : ℕ → End) (i : ℕ) → i < 2 → receiver (x 0 ∷ x 1 ∷ []) i ≡ x (1 - i)
+two-receiver x zero h = refl
+two-receiver x (suc zero) h = refl
+two-receiver x (suc (suc i)) h = absurd (omega arith)
 
 pub spans : (h : List LineSegment) → Answered h → (i : ℕ) → i < 2 → Spans (numbersOf i h)
 spans h a zero s = a .opener
@@ -62,19 +62,19 @@ module _ (c : Connection) (h : List LineSegment) (holds : Holds c h) (p : LineSe
     T : Spans (numbersOf (1 - p .from) h)
     T = spans h answered (1 - p .from) (omega arith)
 
-    sequence-judged : sequenceMet (sender (c .ends) (p .from)) (other (c .ends) (p .from)) (onWire p) ≡ boundsI-II (numbersOf (p .from) h) (numbersOf (1 - p .from) h) (p .start) (p .length)
+    sequence-judged : sequenceMet (sender (c .ends) (p .from)) (receiver (c .ends) (p .from)) (onWire p) ≡ boundsI-II (numbersOf (p .from) h) (numbersOf (1 - p .from) h) (p .start) (p .length)
     sequence-judged =
-        rw (holds .ends, two-sender (λ k. onRing (numbersOf k h)) (p .from) side, two-other (λ k. onRing (numbersOf k h)) (p .from) side)
+        rw (holds .ends, two-sender (λ k. onRing (numbersOf k h)) (p .from) side, two-receiver (λ k. onRing (numbersOf k h)) (p .from) side)
         (sequence-line (numbersOf (p .from) h) (numbersOf (1 - p .from) h) F T p start)
 
-    ack-judged : ((ack (p .flags) =ᵇ 1) && not (ackMet ackRange (other (c .ends) (p .from)) (onWire p))) ≡ ((ack (p .flags) =ᵇ 1) && not (boundsIII-IV ackRange (numbersOf (1 - p .from) h) (p .acked)))
+    ack-judged : ((ack (p .flags) =ᵇ 1) && not (ackMet ackRange (receiver (c .ends) (p .from)) (onWire p))) ≡ ((ack (p .flags) =ᵇ 1) && not (boundsIII-IV ackRange (numbersOf (1 - p .from) h) (p .acked)))
     ack-judged = by-ack (eqb (ack (p .flags)) 1) refl
       where
         by-ack :
             (t : Bool) → eqb (ack (p .flags)) 1 ≡ t →
-            (t && not (ackMet ackRange (other (c .ends) (p .from)) (onWire p))) ≡ (t && not (boundsIII-IV ackRange (numbersOf (1 - p .from) h) (p .acked)))
+            (t && not (ackMet ackRange (receiver (c .ends) (p .from)) (onWire p))) ≡ (t && not (boundsIII-IV ackRange (numbersOf (1 - p .from) h) (p .acked)))
         by-ack true e =
-            rw (holds .ends, two-other (λ k. onRing (numbersOf k h)) (p .from) side)
+            rw (holds .ends, two-receiver (λ k. onRing (numbersOf k h)) (p .from) side)
             (ap not (ack-line (numbersOf (1 - p .from) h) T p ackRange ackRange-small (acked (eqb-true _ _ e))))
         by-ack false e = refl
 

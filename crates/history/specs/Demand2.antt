@@ -1,5 +1,5 @@
 -- Demand 2 for one connection: after any segments presented to it, its numbers and its next answer are the history's.
-use Prim.Native.Nat.{ℕ, _-_, _<_}
+use Prim.Native.Nat.{ℕ, _<_}
 use mathlib.Core.Path.{_≡_}
 use mathlib.Core.Bool.{Bool, true}
 use mathlib.Core.Logic.{_↔_}
@@ -8,6 +8,7 @@ use Rattle.choice.specs.Choice.{if_then_else_, _=ᵇ_}
 use Rattle.serial.specs.Ring.{wrap}
 use Rattle.segment.specs.Flags.{rst, ack, SYN}
 use Rattle.segment.specs.declared.Segment.{Segment}
+use Rattle.connection.specs.Ends.{opener, otherEnd}
 use Rattle.connection.specs.Decision.{verdictOn, verdictNumber, free, opened, passed}
 use Rattle.connection.specs.declared.Connection.{Connection}
 use Rattle.connection.specs.declared.Verdict.{Verdict}
@@ -16,20 +17,20 @@ use Rattle.connection.specs.Ranges.{ackRange}
 use Rattle.history.specs.Numbers.{boundsI-II, boundsIII-IV}
 use Rattle.history.specs.History.{LineSegment, numbersOf, stageOf, placed, judge, Holds, Placeable}
 
--- a segment presented to a connection: of its opener (0) or its answerer (1), at a clock used
+-- a segment presented to a connection, of its opener or its answerer, at a clock used
 pub record Presented : Type 0 where
   pub sender : ℕ
   pub segment : Segment
   pub now : ℕ
 
-pub record Legal (o : Presented) : Type 0 where
+pub record Presentable (o : Presented) : Type 0 where
   pub sender-known : o .sender < 2
   pub placeable : Placeable (o .segment)
 
 -- each of a list is legal
-unfoldable pub AllLegal : List Presented → Type 0
-AllLegal [] = Unit {0}
-AllLegal (o ∷ l) = Legal o × AllLegal l
+unfoldable pub AllPresentable : List Presented → Type 0
+AllPresentable [] = Unit {0}
+AllPresentable (o ∷ l) = Presentable o × AllPresentable l
 
 -- its segment on the line, over a history
 abbrev pub onLine : List LineSegment → Presented → LineSegment
@@ -47,21 +48,21 @@ abbrev pub leftBy : Connection → Presented → Connection
 leftBy c o = passed c (o .sender) (o .segment) (o .now)
 
 -- document 01's answer 0
-abbrev pub passes : Verdict → Bool
-passes v = verdictNumber v =ᵇ 0
+abbrev pub isPass : Verdict → Bool
+isPass v = verdictNumber v =ᵇ 0
 
 -- After a list of presentations, the newest first: only a pass changes anything
 
 unfoldable pub connectionAfter : Connection → List Presented → Connection
 connectionAfter c [] = c
 connectionAfter c (o ∷ l) =
-    if passes (answerTo (connectionAfter c l) o) then leftBy (connectionAfter c l) o else connectionAfter c l
+    if isPass (answerTo (connectionAfter c l) o) then leftBy (connectionAfter c l) o else connectionAfter c l
 
 -- a pass puts the segment on top
 unfoldable pub historyAfter : List LineSegment → List Presented → List LineSegment
 historyAfter h [] = h
 historyAfter h (o ∷ l) =
-    if passes (judgedOver (historyAfter h l) o) then onLine (historyAfter h l) o ∷ historyAfter h l else historyAfter h l
+    if isPass (judgedOver (historyAfter h l) o) then onLine (historyAfter h l) o ∷ historyAfter h l else historyAfter h l
 
 -- none that passed was a reset
 unfoldable pub NoReset : List LineSegment → List Presented → Type 0
@@ -70,7 +71,7 @@ NoReset h (o ∷ l) = NoReset h l × (judgedOver (historyAfter h l) o ≡ Pass �
 
 -- the history of an opening SYN alone
 abbrev pub openingHistory : Segment → List LineSegment
-openingHistory g = placed [] 0 g ∷ []
+openingHistory g = placed [] opener g ∷ []
 
 -- a connection and a history agree: on the six numbers, FIN bits and stage, and on the answer to o; and a passed reset frees
 pub record Agree (c : Connection) (h : List LineSegment) (o : Presented) : Type 0 where
@@ -82,18 +83,18 @@ pub record Agree (c : Connection) (h : List LineSegment) (o : Presented) : Type 
 abbrev pub Demand2OfConnection : Type 0
 Demand2OfConnection =
     (side : ℕ) (g : Segment) (now : ℕ) → Placeable g → g .flags ≡ SYN →
-    (l : List Presented) → AllLegal l → NoReset (openingHistory g) l →
-    (o : Presented) → Legal o →
+    (l : List Presented) → AllPresentable l → NoReset (openingHistory g) l →
+    (o : Presented) → Presentable o →
     Agree (connectionAfter (opened side g now) l) (historyAfter (openingHistory g) l) o
 
 -- Where the bounds are met the place on the line is unique, so the answers speak of all places with the segment's 32 bits
 
 -- o's octets from S on meet bounds I and II; an acknowledgement of A meets III and IV
 abbrev pub sequenceMetAt : List LineSegment → Presented → ℕ → Bool
-sequenceMetAt h o S = boundsI-II (numbersOf (o .sender) h) (numbersOf (1 - o .sender) h) S (o .segment .octets .0)
+sequenceMetAt h o S = boundsI-II (numbersOf (o .sender) h) (numbersOf (otherEnd (o .sender)) h) S (o .segment .octets .0)
 
 abbrev pub ackMetAt : List LineSegment → Presented → ℕ → Bool
-ackMetAt h o A = boundsIII-IV ackRange (numbersOf (1 - o .sender) h) A
+ackMetAt h o A = boundsIII-IV ackRange (numbersOf (otherEnd (o .sender)) h) A
 
 pub record OnePlace (c : Connection) (h : List LineSegment) (o : Presented) : Type 0 where
   -- where a place with the segment's sequence number meets I and II, it is the one that the segment is given: the nearest
@@ -111,6 +112,6 @@ pub record OnePlace (c : Connection) (h : List LineSegment) (o : Presented) : Ty
 abbrev pub Uniqueness : Type 0
 Uniqueness =
     (side : ℕ) (g : Segment) (now : ℕ) → Placeable g → g .flags ≡ SYN →
-    (l : List Presented) → AllLegal l → NoReset (openingHistory g) l → (stageOf (historyAfter (openingHistory g) l) ≡ 1 → ⊥) →
-    (o : Presented) → Legal o →
+    (l : List Presented) → AllPresentable l → NoReset (openingHistory g) l → (stageOf (historyAfter (openingHistory g) l) ≡ 1 → ⊥) →
+    (o : Presented) → Presentable o →
     OnePlace (connectionAfter (opened side g now) l) (historyAfter (openingHistory g) l) o

@@ -1,5 +1,8 @@
 -- A history: the segments that passed on one connection, on the unwrapped line, newest first. The last is the opening SYN.
-use Prim.Native.Nat.{ℕ, _+_, _-_, _^_, _<_, _≤_, max}
+-- Its numbers, its window and bounds I to IV are its own. Shared with `connection` by definition are the rules that document 01 has once and
+-- that no bound speaks of: the FIN bits and the stage after a segment (`finsAfter`, `stageAfter`), a stage's life (`lifeOf`, in `honest`),
+-- and the constants 66,000 and 65,535.
+use Prim.Native.Nat.{ℕ, _+_, _^_, _<_, _≤_, max}
 use mathlib.Core.Path.{_≡_}
 use mathlib.Core.Bool.{Bool, _&&_, _||_, not}
 use mathlib.Core.List.{List, [], _∷_}
@@ -8,7 +11,7 @@ use Rattle.serial.specs.Ring.{nearest}
 use Rattle.serial.specs.Serial.{seqAt}
 use Rattle.segment.specs.Flags.{syn, isReset, ack, SYN, SYN+ACK, ACK+RST}
 use Rattle.segment.specs.declared.Segment.{Segment}
-use Rattle.connection.specs.Ends.{count, effectiveWindow}
+use Rattle.connection.specs.Ends.{count, opener, answerer, otherEnd}
 use Rattle.connection.specs.Ranges.{ackRange, widest}
 use Rattle.connection.specs.Stages.{finsAfter, stageAfter}
 use Rattle.connection.specs.declared.Connection.{Connection}
@@ -16,7 +19,7 @@ use Rattle.connection.specs.declared.Verdict.{Verdict}
 use Rattle.connection.specs.declared.Verdict.the-variants.{Pass, NotAllowed, SequenceMissed, AckMissed}
 use Rattle.history.specs.Numbers.{Numbers, onRing, boundsI-II, boundsIII-IV}
 
--- a segment whose numbers are places on the line; from is 0 for the opener, 1 for the answerer
+-- a segment whose numbers are places on the line; it is from the opener or the answerer
 pub record LineSegment : Type 0 where
   pub from : ℕ
   pub flags : ℕ
@@ -69,7 +72,7 @@ stageOf (g ∷ h) =
     if isReset (g .flags) then 0
     else if stageOf h =ᵇ 0 then 1
     else if stageOf h ≠ᵇ 1 then stageAfter (stageOf h) (finsOf (g ∷ h)) (g .from) (g .flags)
-    else if g .from =ᵇ 0 then 1
+    else if g .from =ᵇ opener then 1
     else 2
 
 -- The next segment
@@ -88,19 +91,19 @@ placedBy E E' i g = record {
   start = standsBy E (g .seq .0);
   length = g .octets .0;
   acked = standsBy E' (g .ack .0);
-  window = effectiveWindow g .0;
+  window = g .window .0;
 }
 
 abbrev pub placed : List LineSegment → ℕ → Segment → LineSegment
-placed h i g = placedBy (numbersOf i h .end) (numbersOf (1 - i) h .end) i g
+placed h i g = placedBy (numbersOf i h .end) (numbersOf (otherEnd i) h .end) i g
 
 -- the same SYN again: the opener's, no ACK, s = opener end − 1
 unfoldable pub sameSynOnLine : List LineSegment → LineSegment → Bool
-sameSynOnLine h p = (p .from =ᵇ 0) && ((p .flags =ᵇ SYN) && (p .start + 1 =ᵇ numbersOf 0 h .end))
+sameSynOnLine h p = (p .from =ᵇ opener) && ((p .flags =ᵇ SYN) && (p .start + 1 =ᵇ numbersOf opener h .end))
 
 -- from the answerer, with a = opener end, either SYN+ACK or ACK+RST without FIN
 unfoldable pub replyOnLine : List LineSegment → LineSegment → Bool
-replyOnLine h p = (p .from =ᵇ 1) && ((p .acked =ᵇ numbersOf 0 h .end) && ((p .flags =ᵇ SYN+ACK) || (p .flags =ᵇ ACK+RST)))
+replyOnLine h p = (p .from =ᵇ answerer) && ((p .acked =ᵇ numbersOf opener h .end) && ((p .flags =ᵇ SYN+ACK) || (p .flags =ᵇ ACK+RST)))
 
 -- stage 1's three segments, on the line
 unfoldable pub judgeUnanswered : List LineSegment → LineSegment → Verdict
@@ -110,15 +113,15 @@ judgeUnanswered h p = if sameSynOnLine h p || replyOnLine h p then Pass else Not
 unfoldable pub judge : List LineSegment → LineSegment → Verdict
 judge h p =
     if stageOf h =ᵇ 1 then judgeUnanswered h p
-    else if not (boundsI-II (numbersOf (p .from) h) (numbersOf (1 - p .from) h) (p .start) (p .length)) then SequenceMissed
-    else if (ack (p .flags) =ᵇ 1) && not (boundsIII-IV ackRange (numbersOf (1 - p .from) h) (p .acked)) then AckMissed
+    else if not (boundsI-II (numbersOf (p .from) h) (numbersOf (otherEnd (p .from)) h) (p .start) (p .length)) then SequenceMissed
+    else if (ack (p .flags) =ᵇ 1) && not (boundsIII-IV ackRange (numbersOf (otherEnd (p .from)) h) (p .acked)) then AckMissed
     else Pass
 
 -- The connection holds exactly those numbers modulo 2^32, and the FIN bits and stage of the history
 pub record Holds (c : Connection) (h : List LineSegment) : Type 0 where
   pub stage : c .stage ≡ stageOf h
   pub fins : c .fins ≡ finsOf h
-  pub ends : c .ends ≡ onRing (numbersOf 0 h) ∷ onRing (numbersOf 1 h) ∷ []
+  pub ends : c .ends ≡ onRing (numbersOf opener h) ∷ onRing (numbersOf answerer h) ∷ []
 
 -- well formed: a 16-bit window, and a SYN alone, without payload
 pub record Formed (p : LineSegment) : Type 0 where

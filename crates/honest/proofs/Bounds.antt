@@ -16,7 +16,7 @@ use Rattle.history.specs.Numbers.{Numbers, boundsI-II, boundsIII-IV}
 use Rattle.history.specs.History.{LineSegment, numbersOf, stageOf, judge, sameSynOnLine, replyOnLine, judgeUnanswered, Formed}
 use Rattle.history.proofs.Step.{Spans}
 use Rattle.history.proofs.Verdict.{Unanswered, Answered, spans}
-use Rattle.honest.specs.Rules.{Event, Pair, InOrder, highest, ackOf, endOf, answered}
+use Rattle.honest.specs.Rules.{Event, Pair, InOrder, highest, ackOf, endOf, hasAnswer}
 use Rattle.honest.proofs.Lists.{In, highest-lub, endBy-mine, numbers-up, end-lub}
 use Rattle.honest.proofs.Sends.{SentWith, ackFrom, Later, First, Fact, Protocol, FirstFacts, first-facts, answered-in, passed-sent}
 
@@ -121,7 +121,7 @@ module _
   -- In stage 1 neither end is answered, so each sends its first segment only
 
   module _ (quiet : Unanswered h) (begun : P .start 0 + 1 ≤ numbersOf 0 h .end) where
-    opener-unanswered : answered 0 L ≡ true → ⊥
+    opener-unanswered : hasAnswer 0 L ≡ true → ⊥
     opener-unanswered e =
         let r = answered-in 0 L (omega arith) e in
         let there = inv .received 0 (r .0) (r .1) in
@@ -140,11 +140,11 @@ module _
         let f = inv .facts (a .0) g (a .1) (a .3) in (
           a .1,
           ⊎-elim (λ (x : First P g (a .1)). x)
-              (λ (y : Later g (a .1) L). absurd (opener-unanswered (subst (λ (j : ℕ). answered j L ≡ true) opener (y .answered-now)))) (f .kind),
+              (λ (y : Later g (a .1) L). absurd (opener-unanswered (subst (λ (j : ℕ). hasAnswer j L ≡ true) opener (y .answered-now)))) (f .kind),
           f .formed,
         )
 
-    answerer-unanswered : answered 1 L ≡ true → ⊥
+    answerer-unanswered : hasAnswer 1 L ≡ true → ⊥
     answerer-unanswered e =
         let r = answered-in 1 L (omega arith) e in
         let there = inv .received 1 (r .0) (r .1) in
@@ -154,7 +154,7 @@ module _
         let o = opener-first (r .0) (there .0) opener in
         omega (arith, first-facts P (r .0) (o .2) (o .1 .rule) .opener opener, r .2)
 
-    unanswered-both : (i : ℕ) → i < 2 → answered i L ≡ true → ⊥
+    unanswered-both : (i : ℕ) → i < 2 → hasAnswer i L ≡ true → ⊥
     unanswered-both zero known = opener-unanswered
     unanswered-both (suc zero) known = answerer-unanswered
     unanswered-both (suc (suc i)) known = absurd (omega arith)

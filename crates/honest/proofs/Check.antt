@@ -22,8 +22,8 @@ use Rattle.rows.specs.declared.Found.{Found}
 use Rattle.rows.specs.declared.Found.the-variants.{At, Nothing}
 use Rattle.history.specs.History.{LineSegment, onWire, Formed}
 use Rattle.honest.specs.Machine.{asks, Machine}
-use Rattle.honest.specs.Rules.{Label, opening, arrival, other, Is, Event, send, call, delivery, Pair, sentBy, Sent, Arrived, InOrder, receivedBy, highest, some, ackOf, edgeOf, endOf, answered, sideOf, keyOf, FirstSegment, LaterSegment, Honest, first, later}
-use Rattle.honest.specs.Honest.{told, passes, Live, said, Passed, Arrives, Opening, Arrival, FairCall, Fair, Legal}
+use Rattle.honest.specs.Rules.{Label, opening, arrival, other, Is, Event, send, call, delivery, Pair, sentBy, Sent, Arrived, InOrder, receivedBy, highest, some, ackOf, edgeOf, endOf, hasAnswer, sideOf, keyOf, FirstSegment, LaterSegment, Honest, first, later}
+use Rattle.honest.specs.Honest.{told, passes, Live, said, WasPassed, Arrives, Opening, Arrival, FairCall, Fair, Legal}
 use Rattle.honest.specs.Instance.{ViewCall, viewMachine}
 
 -- Tests with what they show
@@ -164,8 +164,8 @@ module _ (t₀ : View connections) (P : Pair) where
       so (λ h. ⊎-elim (λ f. first (f .0) (f .1 .0) (f .1 .1)) (λ l. later (l .0) (l .1)) h)
       (either
       (both (firstSegment p)
-      (both (isFalse (answered (p .from) L)) (ifEqual (p .from) 1 (isTrue (some (λ g. g .flags =ᵇ SYN) (receivedBy 1 L))))))
-      (both (laterSegment p L) (isTrue (answered (p .from) L))))
+      (both (isFalse (hasAnswer (p .from) L)) (ifEqual (p .from) 1 (isTrue (some (λ g. g .flags =ᵇ SYN) (receivedBy 1 L))))))
+      (both (laterSegment p L) (isTrue (hasAnswer (p .from) L))))
 
   abbrev wasSent : (k : ℕ) (p : LineSegment) (L : Seen) → Test (Sent k p L)
   wasSent k p [] = no
@@ -242,7 +242,7 @@ module _ (t₀ : View connections) (P : Pair) where
   isLabel (arrival j g) k p = both (equal k j) (sameLine p g)
   isLabel other k p = no
 
-  abbrev hasPassed : (k : ℕ) (p : LineSegment) (L : Seen) → Test (Passed M t₀ k p L)
+  abbrev hasPassed : (k : ℕ) (p : LineSegment) (L : Seen) → Test (WasPassed M t₀ k p L)
   hasPassed k p [] = no
   hasPassed k p (send g ∷ L) = hasPassed k p L
   hasPassed k p (call q l ∷ L) = either (both (isLabel l k p) (isTrue (passes M (told M t₀ L) q))) (hasPassed k p L)

@@ -16,13 +16,13 @@ use Rattle.connection.specs.Stages.{lifeOf}
 use Rattle.connection.specs.Decision.{verdictOn, passed, opened}
 use Rattle.connection.specs.declared.Connection.{Connection}
 use Rattle.connection.specs.declared.Verdict.the-variants.{Pass}
-use Rattle.rows.specs.Rows.{Ask, opens, Entry, View, freeEntry, entryWith, entryAfter, openingEntry, filter}
+use Rattle.rows.specs.Rows.{Ask, isOpening, Entry, View, freeEntry, entryWith, entryAfter, openingEntry, filter}
 use Rattle.rows.specs.Connections.{connections}
 use Rattle.history.specs.Numbers.{onRing}
 use Rattle.history.specs.History.{LineSegment, numbersOf, finsOf, stageOf, placed, judge, Holds, Placeable}
 use Rattle.history.proofs.Demand2.{Reached, unanswered, answered, judged, pass-holds, holds-first, reached-first}
 use Rattle.honest.specs.Histories.{History, grown, histories, recordsOf, connectionOf}
-use Rattle.honest.specs.Demand2.{fresh, tableAfter, AllPlaceable, Demand2}
+use Rattle.honest.specs.Demand2.{fresh, viewAfter, AllPlaceable, Demand2}
 use Rattle.honest.proofs.Arrival.{passed-renewed}
 use Rattle.honest.proofs.Simulation.{Agreeing, Related, Alike, answer-alike, place-alike, after-alike, filter-same}
 use Rattle.honest.proofs.SoundKept.{reset-frees}
@@ -69,7 +69,7 @@ stands-by k c h side deadline holds reached =
 
 -- an opening
 made-stands :
-    (now side : ℕ) (k : Flow) (g : Segment) → Placeable g → opens side g ≡ true →
+    (now side : ℕ) (k : Flow) (g : Segment) → Placeable g → isOpening side g ≡ true →
     Stands (openingEntry connections now side k g) (openingEntry histories now side k g)
 unfolding openingEntry opened
 made-stands now side k g placeable opening =
@@ -157,20 +157,20 @@ fresh-related n = record { clock = refl; places = refl; entries = λ p. free-sta
 
 tables-related :
     (n : ℕ) (l : List Ask) → AllPlaceable l →
-    Related Stands (tableAfter connections n l) (tableAfter histories n l)
-unfolding tableAfter AllPlaceable
+    Related Stands (viewAfter connections n l) (viewAfter histories n l)
+unfolding viewAfter AllPlaceable
 tables-related n [] placeable = fresh-related n
 tables-related n (a ∷ l) placeable =
     let before = tables-related n l (placeable .1) in
-    let t = tableAfter connections n l in
-    let u = tableAfter histories n l in
+    let t = viewAfter connections n l in
+    let u = viewAfter histories n l in
     after-alike Stands t u before (filter connections t a) (filter histories u a) (same-outcome t u before a (placeable .0))
 
 pub demand2 : Demand2
 demand2 n l placeable =
     let related = tables-related n l placeable in
-    let t = tableAfter connections n l in
-    let u = tableAfter histories n l in
+    let t = viewAfter connections n l in
+    let u = viewAfter histories n l in
     record {
       table = λ i. record { clock = related .clock i; places = related .places i; entry = λ p. related .entries p .is i };
       answer = λ a placeable. answer-alike Stands (filter connections t a) (filter histories u a) (same-outcome t u related a placeable);

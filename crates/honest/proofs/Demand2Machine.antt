@@ -5,7 +5,7 @@ use mathlib.Core.List.{List, [], _∷_}
 use Rattle.rows.specs.Rows.{Ask, View, filter, answerOf, placeBy, after}
 use Rattle.rows.specs.Connections.{connections}
 use Rattle.honest.specs.Machine.{Reading, refused, asks, apart, Machine, KeepsTo}
-use Rattle.honest.specs.Demand2.{fresh, tableAfter, AllPlaceable, stateAfter, withAsk, asked, MachineFollows, Demand2Of}
+use Rattle.honest.specs.Demand2.{fresh, viewAfter, AllPlaceable, stateAfter, withAsk, asked, MachineFollows, Demand2Of}
 use Rattle.honest.proofs.Demand2Lists.{demand2}
 
 module _
@@ -30,17 +30,17 @@ module _
   -- one call more
   view-next :
       (s : M .State) (q : M .Call) (r : Reading Ask) (l : List Ask) → Sound s → M .reads q ≡ r →
-      M .view s ≡ tableAfter connections n l →
-      M .view (M .run s q .next) ≡ tableAfter connections n (withAsk r l)
-  unfolding tableAfter
+      M .view s ≡ viewAfter connections n l →
+      M .view (M .run s q .next) ≡ viewAfter connections n (withAsk r l)
+  unfolding viewAfter
   view-next s q (refused m) l sound-s e before =
       keeps .blocked-keeps s q (λ zero-answer. keeps .refusal-blocks q m e (sym (keeps .refusal-answered s q m sound-s e) ∙ zero-answer)) ∙ before
   view-next s q (asks a) l sound-s e before =
       keeps .left s q a sound-s e ∙ ap (λ (v : View connections). after connections v (filter connections v a)) before
   view-next s q apart l sound-s e before = keeps .apart-keeps s q sound-s e ∙ before
 
-  view-after : (l : List (M .Call)) → M .view (stateAfter M s₀ l) ≡ tableAfter connections n (asked M l)
-  unfolding stateAfter asked tableAfter
+  view-after : (l : List (M .Call)) → M .view (stateAfter M s₀ l) ≡ viewAfter connections n (asked M l)
+  unfolding stateAfter asked viewAfter
   view-after [] = begins
   view-after (q ∷ l) = view-next (stateAfter M s₀ l) q (M .reads q) (asked M l) (stays-sound l) refl (view-after l)
 

@@ -15,7 +15,7 @@ use Rattle.connection.specs.Decision.{verdictOn, passed, opened}
 use Rattle.connection.specs.declared.Connection.{Connection}
 use Rattle.connection.specs.declared.Verdict.the-variants.{Pass}
 use Rattle.rows.specs.Rows as rows
-use Rattle.rows.specs.Rows.{Ask, View, Entry, Passed as Passes, clockUsed, senderOf, entryWith, entryAfter, onEntry, filter, answerOf, placeBy, after}
+use Rattle.rows.specs.Rows.{Ask, View, Entry, WasPassed as Passes, clockUsed, senderOf, entryWith, entryAfter, onEntry, filter, answerOf, placeBy, after}
 use Rattle.rows.specs.Connections.{connections}
 use Rattle.rows.specs.declared.Found.the-variants.{Nothing}
 use Rattle.rows.proofs.Rows.{onSegment-by-search, onEntry-by-verdict}
@@ -25,7 +25,7 @@ use Rattle.history.proofs.Pass.{opened-unanswered, opened-holds, opener-begins}
 use Rattle.honest.specs.Sound.{SoundView}
 use Rattle.honest.specs.Machine.{Reading, refused, asks, apart, Machine, clockIn, KeepsTo}
 use Rattle.honest.specs.Rules.{Label, opening, arrival, other, Event, send, call, delivery, Pair, sideOf, keyOf, Sent, Arrived, receivedBy, Honest}
-use Rattle.honest.specs.Honest.{Told, passes, nextClock, afterSegment, afterCall, told, said, Live, Passed, PassedOnOurs, Opening, Arrival, FairCall, Legal, NeverBlocked, Demand3}
+use Rattle.honest.specs.Honest.{Told, passes, nextClock, afterSegment, afterCall, told, said, Live, WasPassed, PassedOnOurs, Opening, Arrival, FairCall, Legal, NeverBlocked, Demand3}
 use Rattle.honest.proofs.Lists.{In}
 use Rattle.honest.proofs.Sends.{SentWith, sent-with, First, Later, Fact, first-facts, Protocol, answered-in, protocol-sent, protocol-delivered, protocol-called, protocol-passed}
 use Rattle.honest.proofs.Arrival.{Heard, quiet, passing, passed-renewed, opened-renewed}
@@ -95,7 +95,7 @@ module _ (M : Machine) (Sound : M .State → Type 0) (keeps : KeepsTo M Sound) (
     asked a is e = record {
       ask = a;
       read = is;
-      answer = sym (keeps .answered (t .state) q a (kept .sound) is) ∙ passed-0 e;
+      answer = sym (keeps .hasAnswer (t .state) q a (kept .sound) is) ∙ passed-0 e;
       place = keeps .placed (t .state) q a (kept .sound) is;
       table = keeps .left (t .state) q a (kept .sound) is;
     }
@@ -206,7 +206,7 @@ module _ (M : Machine) (Sound : M .State → Type 0) (keeps : KeepsTo M Sound) (
 
     module _ (p : LineSegment) (a : Ask) (read : M .reads q ≡ asks a) (brings : a .segment ≡ onWire p) (e : passes M t q ≡ true) where
       answer-0 : answerOf connections (filter connections v a) ≡ 0
-      answer-0 = sym (keeps .answered (t .state) q a (kept .sound) read) ∙ passed-0 e
+      answer-0 = sym (keeps .hasAnswer (t .state) q a (kept .sound) read) ∙ passed-0 e
 
       -- what is told of the deadline is no later than the entry's
       told-before :
@@ -283,7 +283,7 @@ module _ (M : Machine) (Sound : M .State → Type 0) (keeps : KeepsTo M Sound) (
           ∙ ap (Passes (al .place) now) ((λ n. entryAfter connections (ours P c) (sender n) (brings n) now) ∙ if-=-not _ _ (in-use-stage _ in-use))
 
       answer-is-0 : M .run (t .state) q .answer ≡ 0
-      answer-is-0 = keeps .answered (t .state) q a (kept .sound) read ∙ ap (answerOf connections) filter-passes
+      answer-is-0 = keeps .hasAnswer (t .state) q a (kept .sound) read ∙ ap (answerOf connections) filter-passes
 
       place-is-ours : M .run (t .state) q .place ≡ t .place
       place-is-ours = keeps .placed (t .state) q a (kept .sound) read ∙ ap (placeBy (M .number)) filter-passes ∙ al .numbered
@@ -312,7 +312,7 @@ module _ (M : Machine) (Sound : M .State → Type 0) (keeps : KeepsTo M Sound) (
   in-more p g h false one = ⊎-elim (λ (new : (p ≡ g) × (false ≡ true)). false-true (new .1)) (λ (old : In p h). old) one
 
   -- what has passed is in the history
-  passed-in : (k : ℕ) (p : LineSegment) (L : List (Event (M .Call))) → Passed M s₀ k p L → In p (told M s₀ L .passed)
+  passed-in : (k : ℕ) (p : LineSegment) (L : List (Event (M .Call))) → WasPassed M s₀ k p L → In p (told M s₀ L .passed)
   unfolding told afterCall
   passed-in k p [] none = absurd none
   passed-in k p (send g ∷ L) was = passed-in k p L was
@@ -343,7 +343,7 @@ module _ (M : Machine) (Sound : M .State → Type 0) (keeps : KeepsTo M Sound) (
     protocol = protocol-sent P (told M s₀ L .passed) (λ k g. Arrived k g L) L (inv .protocol) p end-known formed honest;
   }
 
-  after-delivery : (k : ℕ) (p : LineSegment) (L : List (Event (M .Call))) → Inv L → Passed M s₀ k p L → Inv (delivery k p ∷ L)
+  after-delivery : (k : ℕ) (p : LineSegment) (L : List (Event (M .Call))) → Inv L → WasPassed M s₀ k p L → Inv (delivery k p ∷ L)
   unfolding told
   after-delivery k p L inv was = record {
     table = inv .table;

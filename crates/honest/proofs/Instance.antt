@@ -11,13 +11,13 @@ use Rattle.honest.specs.Machine.{KeepsTo}
 use Rattle.honest.specs.Rules.{Event, Pair}
 use Rattle.honest.specs.Honest.{Legal, NeverBlocked, Demand3}
 use Rattle.honest.specs.Demand2.{fresh, Demand2Of}
-use Rattle.honest.specs.Instance.{ViewCall, viewMachine, SoundTypedView}
-use Rattle.honest.proofs.SoundKept.{free-typed, filter-sound}
+use Rattle.honest.specs.Instance.{ViewCall, viewMachine, SoundTwoEndedView}
+use Rattle.honest.proofs.SoundKept.{free-two-ended, filter-sound}
 use Rattle.honest.proofs.Demand2Machine.{demand2-of}
 use Rattle.honest.proofs.Demand3.{demand3}
 
 module _ (number : ℕ → ℕ) where
-  pub viewMachine-keeps : KeepsTo (viewMachine number) SoundTypedView
+  pub viewMachine-keeps : KeepsTo (viewMachine number) SoundTwoEndedView
   viewMachine-keeps = record {
     refusal-answered = λ t q n sound is. false-true cc;
     refusal-placed = λ t q n sound is. false-true cc;
@@ -33,15 +33,15 @@ module _ (number : ℕ → ℕ) where
   }
 
   -- two honest ends are never blocked by the rows
-  pub demand3-view : Demand3 (viewMachine number) SoundTypedView
-  demand3-view = demand3 (viewMachine number) SoundTypedView viewMachine-keeps
+  pub demand3-view : Demand3 (viewMachine number) SoundTwoEndedView
+  demand3-view = demand3 (viewMachine number) SoundTwoEndedView viewMachine-keeps
 
   -- and its answers, places and tables are the histories'
-  pub demand2-view : Demand2Of (viewMachine number) SoundTypedView
-  demand2-view = demand2-of (viewMachine number) SoundTypedView viewMachine-keeps
+  pub demand2-view : Demand2Of (viewMachine number) SoundTwoEndedView
+  demand2-view = demand2-of (viewMachine number) SoundTwoEndedView viewMachine-keeps
 
-  pub fresh-sound : (n : ℕ) → SoundTypedView (fresh connections n)
-  fresh-sound n = ((λ p inside. inl refl), (λ p inside. free-typed))
+  pub fresh-sound : (n : ℕ) → SoundTwoEndedView (fresh connections n)
+  fresh-sound n = ((λ p inside. inl refl), (λ p inside. free-two-ended))
 
   -- from the fresh table of any number of places
   pub demand3-fresh :

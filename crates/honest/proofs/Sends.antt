@@ -13,7 +13,7 @@ use Rattle.choice.proofs.Choice.{if-true, if-false, if-either, if-=, if-=-not}
 use Rattle.choice.proofs.Tests.{false-true}
 use Rattle.segment.specs.Flags.{syn, rst, ack, SYN, SYN+ACK}
 use Rattle.history.specs.History.{LineSegment, numbersOf, Formed}
-use Rattle.honest.specs.Rules.{Label, Event, send, call, delivery, Pair, sentBy, Sent, receivedBy, highest, some, ackOf, edgeOf, endOf, answered, FirstSegment, LaterSegment, Honest, first, later}
+use Rattle.honest.specs.Rules.{Label, Event, send, call, delivery, Pair, sentBy, Sent, receivedBy, highest, some, ackOf, edgeOf, endOf, hasAnswer, FirstSegment, LaterSegment, Honest, first, later}
 use Rattle.honest.proofs.Lists.{In, highest-up, highest-lub, some-in, in-some, endBy-mine, windowBy-mine, edgeBy-theirs, numbers-up, win-some}
 
 -- Sendings with their snapshots
@@ -69,7 +69,7 @@ ackFrom j p = if p .from =ᵇ j then ackOf p else 0
 pub record Later {Call : Type 0} (p : LineSegment) (s : ℕ) (L : List (Event Call)) : Type 0 where
   pub has-ack : ack (p .flags) ≡ 1
   pub no-syn : syn (p .flags) ≡ 0
-  pub answered-now : answered (p .from) L ≡ true
+  pub answered-now : hasAnswer (p .from) L ≡ true
   pub heard : s ≤ highest ackOf (receivedBy (p .from) L)
 
 pub record First (P : Pair) (p : LineSegment) (s : ℕ) : Type 0 where
@@ -78,7 +78,7 @@ pub record First (P : Pair) (p : LineSegment) (s : ℕ) : Type 0 where
 
 -- an end that has received more, and segments of which more have passed
 pub record Grows {Call : Type 0} (L L' : List (Event Call)) : Type 0 where
-  pub answered-still : (i : ℕ) → answered i L ≡ true → answered i L' ≡ true
+  pub answered-still : (i : ℕ) → hasAnswer i L ≡ true → hasAnswer i L' ≡ true
   pub heard-more : (i : ℕ) → highest ackOf (receivedBy i L) ≤ highest ackOf (receivedBy i L')
 
 pub record Rises (h h' : List LineSegment) : Type 0 where
@@ -96,7 +96,7 @@ rises-more p h = record { end = λ i. omega arith; edge = λ i. omega arith; win
 
 module _ {Call : Type 0} where
   pub grows-send : (p : LineSegment) (L : List (Event Call)) → Grows L (send p ∷ L)
-  unfolding answered receivedBy
+  unfolding hasAnswer receivedBy
   grows-send p L = record { answered-still = λ i e. e; heard-more = λ i. omega arith }
 
   received-more : (i k : ℕ) (p g : LineSegment) (L : List (Event Call)) → In g (receivedBy i L) → In g (receivedBy i (delivery k p ∷ L))
@@ -111,7 +111,7 @@ module _ {Call : Type 0} where
       in-some test (receivedBy i (delivery k p ∷ L)) (r .0) (received-more i k p (r .0) L (r .1)) (r .2)
 
   pub grows-delivery : (k : ℕ) (p : LineSegment) (L : List (Event Call)) → Grows L (delivery k p ∷ L)
-  unfolding answered
+  unfolding hasAnswer
   grows-delivery k p L = record {
     answered-still = λ i e. by (eqb i 0) i e;
     heard-more = λ i.
@@ -128,9 +128,9 @@ module _ {Call : Type 0} where
 
 -- an end that is answered has received a segment with ACK; the opener, a SYN+ACK
 pub answered-in :
-    {Call : Type 0} (i : ℕ) (L : List (Event Call)) → i < 2 → answered i L ≡ true →
+    {Call : Type 0} (i : ℕ) (L : List (Event Call)) → i < 2 → hasAnswer i L ≡ true →
     (g : LineSegment) × In g (receivedBy i L) × (ack (g .flags) ≡ 1) × (i ≡ 0 → g .flags ≡ SYN+ACK)
-unfolding answered if_then_else_
+unfolding hasAnswer if_then_else_
 answered-in zero L known e =
     let r = some-in (λ g. g .flags =ᵇ SYN+ACK) (receivedBy 0 L) e in
     let flags = eqb-true (r .0 .flags) SYN+ACK (r .2) in
@@ -290,7 +290,7 @@ module _ {Call : Type 0} (P : Pair) where
             by false e = rw (if-false (ack (g .flags) =ᵇ 1) (g .acked + max (g .window) 1) 0 e) (omega arith)
 
     -- an end that is answered has received an acknowledgement of its SYN
-    pub answered-heard : answered i L ≡ true → P .start i + 1 ≤ highest ackOf (receivedBy i L)
+    pub answered-heard : hasAnswer i L ≡ true → P .start i + 1 ≤ highest ackOf (receivedBy i L)
     answered-heard e =
         let r = answered-in i L known e in
         let f = received-fact (r .0) (r .1) .1 in
@@ -323,7 +323,7 @@ module _ {Call : Type 0} (P : Pair) where
           snapshot-passed = omega (arith, own, rule .start);
         }
 
-    pub fact-later : LaterSegment P p L → answered (p .from) L ≡ true → Fact h p (snapshot p L) L
+    pub fact-later : LaterSegment P p L → hasAnswer (p .from) L ≡ true → Fact h p (snapshot p L) L
     fact-later rule answered-now =
         let heard : snapshot p L ≡ highest ackOf (receivedBy (p .from) L) = if-=-not _ _ (λ (e : syn (p .flags) ≡ 1). omega (arith, rule .no-syn)) in
         record {
@@ -359,7 +359,7 @@ module _ {Call : Type 0} (P : Pair) where
           omega (arith, own, a .own-start, a .rule .start, rule .start),
           λ acks acks'. omega (arith, first-acks P g (e .end-known) (a .rule) ff acks, first-acks P p known rule f acks'),
         ))
-        (λ (b : Later g s L). false-true (sym unanswered ∙ subst (λ (i : ℕ). answered i L ≡ true) same (b .answered-now)))
+        (λ (b : Later g s L). false-true (sym unanswered ∙ subst (λ (i : ℕ). hasAnswer i L ≡ true) same (b .answered-now)))
         (inv .facts k g s sent .kind)
     earlier (later rule answered-now) k g s sent same =
         let heard : snapshot p L ≡ highest ackOf (receivedBy (p .from) L) = if-=-not _ _ (λ (e : syn (p .flags) ≡ 1). omega (arith, rule .no-syn)) in
@@ -460,7 +460,7 @@ module _ {Call : Type 0} (P : Pair) where
       (h : List LineSegment) (Arrived : ℕ → LineSegment → Type 0) (L : List (Event Call)) (inv : Protocol h Arrived L)
       (q : Call) (l : Label) where
     grows-call : Grows L (call q l ∷ L)
-    unfolding answered receivedBy
+    unfolding hasAnswer receivedBy
     grows-call = record { answered-still = λ i e. e; heard-more = λ i. omega arith }
 
     pub protocol-called : Protocol h Arrived (call q l ∷ L)

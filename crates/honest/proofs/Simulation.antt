@@ -11,7 +11,7 @@ use Rattle.connection.specs.declared.Verdict.{Verdict}
 use Rattle.connection.specs.declared.Verdict.the-variants.{Pass, NotAllowed, SequenceMissed, AckMissed}
 use Rattle.rows.specs.Places.{firstFrom}
 use Rattle.rows.specs.Rows as rows
-use Rattle.rows.specs.Rows.{Bodies, Ask, opens, Entry, View, Outcome, Blocked, Passed, freeEntry, fromOpener, fromAnswerer, liveMatch, vacant, lowestVacant, senderOf, entryAfter, byVerdict, onEntry, openingEntry, onVacant, unmatched, onFound, onSegment, clockUsed, filter, answerOf, placeBy, after}
+use Rattle.rows.specs.Rows.{Bodies, Ask, isOpening, Entry, View, Outcome, Blocked, Passed, freeEntry, fromOpener, fromAnswerer, liveMatch, vacant, lowestVacant, senderOf, entryAfter, byVerdict, onEntry, openingEntry, onVacant, unmatched, onFound, onSegment, clockUsed, filter, answerOf, placeBy, after}
 use Rattle.rows.specs.declared.Found.{Found}
 use Rattle.rows.specs.declared.Found.the-variants.{At, Nothing}
 use Rattle.rows.proofs.Places.{first-same}
@@ -25,7 +25,7 @@ module _ {B C : Bodies} where
     pub deadline : {e : Entry B} {f : Entry C} → R e f → B .deadline (e .connection) ≡ C .deadline (f .connection)
     pub free : R (freeEntry B) (freeEntry C)
     pub made :
-        (now side : ℕ) (k : Flow) (g : Segment) → Fit g → opens side g ≡ true →
+        (now side : ℕ) (k : Flow) (g : Segment) → Fit g → isOpening side g ≡ true →
         R (openingEntry B now side k g) (openingEntry C now side k g)
     -- of live entries
     pub verdict :
@@ -120,10 +120,10 @@ module _ {B C : Bodies} where
       unmatched-same : Alike R (unmatched B v now side k g) (unmatched C u now side k g)
       unfolding unmatched
       unmatched-same =
-          if-both (Alike R) (opens side g) (opens side g) _ _ _ _ refl
+          if-both (Alike R) (isOpening side g) (isOpening side g) _ _ _ _ refl
           (λ opening. rw (← lowest-same) (go opening (lowestVacant B v now))) (λ _. refl)
         where
-          go : opens side g ≡ true → (r : Found) → Alike R (onVacant B r now side k g) (onVacant C r now side k g)
+          go : isOpening side g ≡ true → (r : Found) → Alike R (onVacant B r now side k g) (onVacant C r now side k g)
           go opening Nothing = refl
           go opening (At p) = (refl, refl, agree .made now side k g fit opening)
 

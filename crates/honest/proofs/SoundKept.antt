@@ -16,7 +16,7 @@ use Rattle.address.specs.Flows.{noFlow}
 use Rattle.address.specs.declared.Flow.{Flow}
 use Rattle.segment.specs.Flags.{rst}
 use Rattle.segment.specs.declared.Segment.{Segment}
-use Rattle.connection.specs.Ends.{zeros, unheard, opening, sent, granted, written}
+use Rattle.connection.specs.Ends.{zeros, unheard, begun, sent, granted, endsAfter}
 use Rattle.connection.specs.Decision.{verdictOn, free, opened, repeated, answered, carried, passed}
 use Rattle.connection.specs.Sound.{soundConnection}
 use Rattle.connection.specs.declared.Connection.{Connection}
@@ -27,9 +27,9 @@ use Rattle.rows.specs.Rows.{Ask, Entry, View, Outcome, Blocked, Passed, freeEnt
 use Rattle.rows.specs.Connections.{connections}
 use Rattle.rows.proofs.Rows.{sender-known, Comes, blocks, passes, makes, comes}
 use Rattle.history.specs.History.{Placeable}
-use Rattle.history.specs.Records.{Fits, TwoEnds}
+use Rattle.history.specs.Records.{SeqNumsFit, TwoEnds}
 use Rattle.history.proofs.Sound.{opened-sound, passed-sound}
-use Rattle.honest.specs.Sound.{SoundView, Typed, TypedView}
+use Rattle.honest.specs.Sound.{SoundView, TwoEnded, TwoEndedView}
 
 -- Numbers stay below 2^32
 
@@ -44,14 +44,14 @@ further-below : (base a b : SeqNum) → Below (further base a b)
 unfolding further
 further-below base a b = wrap-small _
 
-opening-fits : (g : Segment) → Fits (opening g)
+opening-fits : (g : Segment) → SeqNumsFit (begun g)
 opening-fits g = record { end = plus-below _ _; edge = plus-below _ _ }
 
-sent-fits : (e : End) (g : Segment) → Fits e → Fits (sent e g)
+sent-fits : (e : End) (g : Segment) → SeqNumsFit e → SeqNumsFit (sent e g)
 unfolding sent
 sent-fits e g f = record { end = further-below (e .end) (e .end) _; edge = f .edge }
 
-granted-fits : (e : End) (g : Segment) → Fits e → Fits (granted e g)
+granted-fits : (e : End) (g : Segment) → SeqNumsFit e → SeqNumsFit (granted e g)
 unfolding granted
 granted-fits e g f = record { end = f .end; edge = further-below (e .end) (e .edge) _ }
 
@@ -60,57 +60,57 @@ granted-fits e g f = record { end = f .end; edge = further-below (e .end) (e .ed
 record Two (l : List End) : Type 0 where
   of : ℕ → End
   is : l ≡ of 0 ∷ of 1 ∷ []
-  opener : Fits (of 0)
-  answerer : Fits (of 1)
+  opener : SeqNumsFit (of 0)
+  answerer : SeqNumsFit (of 1)
 
 abbrev two : End → End → ℕ → End
 two e f zero = e
 two e f (suc i) = f
 
-both : (e f : End) → Fits e → Fits f → Two (e ∷ f ∷ [])
+both : (e f : End) → SeqNumsFit e → SeqNumsFit f → Two (e ∷ f ∷ [])
 both e f p q = record { of = two e f; is = refl; opener = p; answerer = q }
 
-typed : (c : Connection) → Two (c .ends) → Typed c
-typed c t = (t .of, record { two = t .is; opener = t .opener; answerer = t .answerer })
+two-ended : (c : Connection) → Two (c .ends) → TwoEnded c
+two-ended c t = (t .of, record { two = t .is; opener = t .opener; answerer = t .answerer })
 
-zeros-fit : Fits zeros
+zeros-fit : SeqNumsFit zeros
 zeros-fit = record { end = omega arith; edge = omega arith }
 
-pub free-typed : Typed free
-free-typed = typed free (both zeros zeros zeros-fit zeros-fit)
+pub free-two-ended : TwoEnded free
+free-two-ended = two-ended free (both zeros zeros zeros-fit zeros-fit)
 
-opened-typed : (side : ℕ) (g : Segment) (now : ℕ) → Typed (opened side g now)
+opened-two-ended : (side : ℕ) (g : Segment) (now : ℕ) → TwoEnded (opened side g now)
 unfolding opened
-opened-typed side g now = typed _ (both (opening g) unheard (opening-fits g) record { end = omega arith; edge = omega arith })
+opened-two-ended side g now = two-ended _ (both (begun g) unheard (opening-fits g) record { end = omega arith; edge = omega arith })
 
 module _ (c : Connection) (x : ℕ → End) (ends : TwoEnds c x) (g : Segment) (now : ℕ) where
-  repeated-typed : Typed (repeated c g now)
+  repeated-two-ended : TwoEnded (repeated c g now)
   unfolding repeated
-  repeated-typed = typed _ (rw (ends .two) (both _ (x 1) record { end = ends .opener .end; edge = ends .opener .edge } (ends .answerer)))
+  repeated-two-ended = two-ended _ (rw (ends .two) (both _ (x 1) record { end = ends .opener .end; edge = ends .opener .edge } (ends .answerer)))
 
-  answered-typed : Typed (answered c g now)
+  answered-two-ended : TwoEnded (answered c g now)
   unfolding answered
-  answered-typed = typed _ (rw (ends .two) (both (granted (x 0) g) (opening g) (granted-fits (x 0) g (ends .opener)) (opening-fits g)))
+  answered-two-ended = two-ended _ (rw (ends .two) (both (granted (x 0) g) (begun g) (granted-fits (x 0) g (ends .opener)) (opening-fits g)))
 
-  written-typed : (i : ℕ) → i < 2 → Two (written (x 0 ∷ x 1 ∷ []) i g)
-  unfolding written
-  written-typed zero h =
+  endsAfter-two : (i : ℕ) → i < 2 → Two (endsAfter (x 0 ∷ x 1 ∷ []) i g)
+  unfolding endsAfter
+  endsAfter-two zero h =
       let F = sent-fits (x 0) g (ends .opener) in
       if-either Two _ _ _ (both _ _ F (granted-fits (x 1) g (ends .answerer))) (both _ _ F (ends .answerer))
-  written-typed (suc zero) h =
+  endsAfter-two (suc zero) h =
       let F = sent-fits (x 1) g (ends .answerer) in
       if-either Two _ _ _ (both _ _ (granted-fits (x 0) g (ends .opener)) F) (both _ _ (ends .opener) F)
-  written-typed (suc (suc i)) h = absurd (omega arith)
+  endsAfter-two (suc (suc i)) h = absurd (omega arith)
 
-  carried-typed : (i : ℕ) → i < 2 → Typed (carried c i g now)
+  carried-two-ended : (i : ℕ) → i < 2 → TwoEnded (carried c i g now)
   unfolding carried
-  carried-typed i h = typed _ (rw (ends .two) (written-typed i h))
+  carried-two-ended i h = two-ended _ (rw (ends .two) (endsAfter-two i h))
 
-  passed-typed : (i : ℕ) → i < 2 → Typed (passed c i g now)
+  passed-two-ended : (i : ℕ) → i < 2 → TwoEnded (passed c i g now)
   unfolding passed
-  passed-typed i h =
-      if-either Typed _ _ _ free-typed
-      (if-either Typed _ _ _ (carried-typed i h) (if-either Typed _ _ _ repeated-typed answered-typed))
+  passed-two-ended i h =
+      if-either TwoEnded _ _ _ free-two-ended
+      (if-either TwoEnded _ _ _ (carried-two-ended i h) (if-either TwoEnded _ _ _ repeated-two-ended answered-two-ended))
 
 -- a reset frees
 pub reset-frees : (c : Connection) (i : ℕ) (g : Segment) (now : ℕ) → rst (g .flags) ≡ 1 → passed c i g now ≡ free
@@ -119,18 +119,18 @@ reset-frees c i g now reset = if-true _ _ _ (eq-eqb _ _ reset)
 
 -- One entry
 
--- free or sound by a clock, and typed
+-- free or sound by a clock, and two-ended
 pub record SoundEntry (clock : ℕ) (e : Entry connections) : Type 0 where
   pub sound : (e ≡ freeEntry connections) ⊎ (soundConnection clock (e .connection) ≡ true)
-  pub typed : Typed (e .connection)
+  pub two-ended : TwoEnded (e .connection)
 
 free-sound : (clock : ℕ) → SoundEntry clock (freeEntry connections)
-free-sound clock = record { sound = inl refl; typed = free-typed }
+free-sound clock = record { sound = inl refl; two-ended = free-two-ended }
 
 entry-later : (clock now : ℕ) (e : Entry connections) → clock ≤ now → SoundEntry clock e → SoundEntry now e
 entry-later clock now e later s = record {
   sound = ⊎-elim (λ free. inl free) (λ sound. inr (later-sound clock now _ later sound)) (s .sound);
-  typed = s .typed;
+  two-ended = s .two-ended;
 }
 
 -- A call
@@ -142,8 +142,8 @@ module _ (v : View connections) (a : Ask) where
   abbrev g : Segment
   g = a .segment
 
-  sound-at : SoundView v → TypedView v → (p : ℕ) → p < v .places → SoundEntry (v .clock) (v .entry p)
-  sound-at sound typed p inside = record { sound = sound p inside; typed = typed p inside }
+  sound-at : SoundView v → TwoEndedView v → (p : ℕ) → p < v .places → SoundEntry (v .clock) (v .entry p)
+  sound-at sound two-ended p inside = record { sound = sound p inside; two-ended = two-ended p inside }
 
   -- what a pass leaves of a live entry is free or sound
   passed-entry :
@@ -152,13 +152,13 @@ module _ (v : View connections) (a : Ask) where
       SoundEntry now (entryAfter connections e i g now)
   unfolding entryWith
   passed-entry e i known s placeable live verdict =
-      let x = s .typed .0 in
-      let ends = s .typed .1 in
+      let x = s .two-ended .0 in
+      let ends = s .two-ended .1 in
       if-cases (SoundEntry now) (passed (e .connection) i g now .stage =ᵇ 0) _ _
       (λ _. free-sound _)
       (λ in-use. record {
         sound = inr (passed-sound (v .clock) (e .connection) x ends not-free i known g placeable now verdict (no-reset in-use));
-        typed = passed-typed (e .connection) x ends g now i known;
+        two-ended = passed-two-ended (e .connection) x ends g now i known;
       })
     where
       not-free : soundConnection (v .clock) (e .connection) ≡ true
@@ -174,17 +174,17 @@ module _ (v : View connections) (a : Ask) where
     pub inside : p < v .places
     pub clock : used ≡ now
     pub sound : SoundEntry used e
-    pub key : (Fits : Flow → Type 0) → Fits noFlow → Fits (a .key) → Fits (v .entry p .key) → Fits (e .key)
+    pub key : (SeqNumsFit : Flow → Type 0) → SeqNumsFit noFlow → SeqNumsFit (a .key) → SeqNumsFit (v .entry p .key) → SeqNumsFit (e .key)
 
   abbrev pub LeftBy : Outcome connections → Type 1
   LeftBy (Blocked n) = Unit {1}
   LeftBy (Passed p used e) = Left p used e
 
   entry-key :
-      (Fits : Flow → Type 0) (e : Entry connections) (c : Connection) → Fits noFlow → Fits (e .key) →
-      Fits (entryWith connections e c .key)
+      (SeqNumsFit : Flow → Type 0) (e : Entry connections) (c : Connection) → SeqNumsFit noFlow → SeqNumsFit (e .key) →
+      SeqNumsFit (entryWith connections e c .key)
   unfolding entryWith
-  entry-key Fits e c none there = if-either (λ (x : Entry connections). Fits (x .key)) _ _ _ none there
+  entry-key SeqNumsFit e c none there = if-either (λ (x : Entry connections). SeqNumsFit (x .key)) _ _ _ none there
 
   made-left :
       (p : ℕ) → p < v .places → a .side ≤ 1 → Placeable g →
@@ -193,36 +193,36 @@ module _ (v : View connections) (a : Ask) where
   made-left p inside known placeable = record {
     inside = inside;
     clock = refl;
-    sound = record { sound = inr (opened-sound (a .side) g now known placeable); typed = opened-typed (a .side) g now };
-    key = λ Fits none asked there. asked;
+    sound = record { sound = inr (opened-sound (a .side) g now known placeable); two-ended = opened-two-ended (a .side) g now };
+    key = λ SeqNumsFit none asked there. asked;
   }
 
-  pub filter-left : SoundView v → TypedView v → a .side ≤ 1 → Placeable (a .segment) → LeftBy (filter connections v a)
-  filter-left sound typed known placeable = go _ (comes connections v now (a .side) (a .key) g)
+  pub filter-left : SoundView v → TwoEndedView v → a .side ≤ 1 → Placeable (a .segment) → LeftBy (filter connections v a)
+  filter-left sound two-ended known placeable = go _ (comes connections v now (a .side) (a .key) g)
     where
       go : (o : Outcome connections) → Comes connections v now (a .side) (a .key) g o → LeftBy o
       go o (blocks n is _ _) = rw is tt
       go o (makes p is _ inside _) = rw is (made-left p inside known placeable)
       go o (passes p is _ inside live verdict) =
-          let was = sound-at sound typed p inside in
+          let was = sound-at sound two-ended p inside in
           rw is record {
             inside = inside;
             clock = refl;
             sound = passed-entry (v .entry p) _ (sender-known connections (v .entry p) (a .side)) was placeable live verdict;
-            key = λ Fits none asked there. entry-key Fits (v .entry p) _ none there;
+            key = λ SeqNumsFit none asked there. entry-key SeqNumsFit (v .entry p) _ none there;
           }
 
   -- so a call leaves a sound view sound
   pub filter-sound :
-      SoundView v → TypedView v → a .side ≤ 1 → Placeable (a .segment) →
-      SoundView (after connections v (filter connections v a)) × TypedView (after connections v (filter connections v a))
-  filter-sound sound typed known placeable = go (filter connections v a) (filter-left sound typed known placeable)
+      SoundView v → TwoEndedView v → a .side ≤ 1 → Placeable (a .segment) →
+      SoundView (after connections v (filter connections v a)) × TwoEndedView (after connections v (filter connections v a))
+  filter-sound sound two-ended known placeable = go (filter connections v a) (filter-left sound two-ended known placeable)
     where
-      go : (o : Outcome connections) → LeftBy o → SoundView (after connections v o) × TypedView (after connections v o)
-      go (Blocked n) left = (sound, typed)
-      go (Passed p used e) left = ((λ q inside. all q inside .sound), (λ q inside. all q inside .typed))
+      go : (o : Outcome connections) → LeftBy o → SoundView (after connections v o) × TwoEndedView (after connections v o)
+      go (Blocked n) left = (sound, two-ended)
+      go (Passed p used e) left = ((λ q inside. all q inside .sound), (λ q inside. all q inside .two-ended))
         where
           all : (q : ℕ) → q < v .places → SoundEntry used (after connections v (Passed p used e) .entry q)
           all q inside =
-              let was = sound-at sound typed q inside in
+              let was = sound-at sound two-ended q inside in
               if-either (SoundEntry used) (q =ᵇ p) e (v .entry q) (left .sound) (entry-later (v .clock) used _ (omega (arith, left .clock)) was)

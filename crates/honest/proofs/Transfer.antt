@@ -14,8 +14,8 @@ use Rattle.rows.specs.Rows.{View}
 use Rattle.rows.specs.Connections.{connections}
 use Rattle.history.specs.History.{LineSegment, stageOf}
 use Rattle.honest.specs.Machine.{refused, asks, Machine, clockIn, KeepsTo}
-use Rattle.honest.specs.Rules.{Label, opening, arrival, other, Event, send, call, delivery, Pair, sentBy, Sent, Arrived, receivedBy, answered, Honest, first, later}
-use Rattle.honest.specs.Honest.{Told, passes, nextClock, afterSegment, afterCall, told, said, Passed, Arrives, FairCall, Legal}
+use Rattle.honest.specs.Rules.{Label, opening, arrival, other, Event, send, call, delivery, Pair, sentBy, Sent, Arrived, receivedBy, hasAnswer, Honest, first, later}
+use Rattle.honest.specs.Honest.{Told, passes, nextClock, afterSegment, afterCall, told, said, WasPassed, Arrives, FairCall, Legal}
 use Rattle.honest.specs.Instance.{ViewCall, viewMachine}
 use Rattle.honest.specs.Carries.{Carries, none, sent, called, refused-alone, delivered, LegalCarried, withCall, withOther, readings, ifAsked, otherAnswers, summaryOf, SummaryCarried}
 
@@ -59,8 +59,8 @@ module _ (M : Machine) where
   arrived-carries k p (refused-alone is c) was = ⊎-elim (λ never. absurd never) (λ before. arrived-carries k p c before) was
   arrived-carries k p (delivered c) was = arrived-carries k p c was
 
-  answered-same : (i : ℕ) {L : Carrying} {N : Carried} → Carries M L N → answered i L ≡ answered i N
-  unfolding answered
+  answered-same : (i : ℕ) {L : Carrying} {N : Carried} → Carries M L N → hasAnswer i L ≡ hasAnswer i N
+  unfolding hasAnswer
   answered-same i c = rw (receivedBy-same 0 c, receivedBy-same 1 c)
 
   honest-carried : (P : Pair) (p : LineSegment) {L : Carrying} {N : Carried} → Carries M L N → Honest P p N → Honest P p L
@@ -123,7 +123,7 @@ module _ (M : Machine) (Sound : M .State → Type 0) (keeps : KeepsTo M Sound) (
   module _ (t : Told M) (kept : Sound (t .state)) (q : M .Call) (b : ViewCall) (is : M .reads q ≡ asks (b .0)) where
     same-pass : passes F (viewed t) b ≡ passes M t q
     unfolding passes
-    same-pass = ap (λ (n : ℕ). n =ᵇ 0) (sym (keeps .answered (t .state) q (b .0) kept is))
+    same-pass = ap (λ (n : ℕ). n =ᵇ 0) (sym (keeps .hasAnswer (t .state) q (b .0) kept is))
 
     same-clock : nextClock F (viewed t) b ≡ nextClock M t q
     same-clock = λ i. if same-pass i then max (clockIn (sym is i)) (t .passClock) else t .passClock
@@ -214,7 +214,7 @@ module _ (M : Machine) (Sound : M .State → Type 0) (keeps : KeepsTo M Sound) (
 
     module _ (q : M .Call) (b : ViewCall) (is : M .reads q ≡ asks (b .0)) where
       said-answer-same : said M s₀ L q .answer ≡ said F t₀ N b .answer
-      said-answer-same = keeps .answered _ q (b .0) (told-sound c) is ∙ ap (λ (t : View connections). F .run t b .answer) view-same
+      said-answer-same = keeps .hasAnswer _ q (b .0) (told-sound c) is ∙ ap (λ (t : View connections). F .run t b .answer) view-same
 
       said-place-same : said M s₀ L q .place ≡ said F t₀ N b .place
       said-place-same = keeps .placed _ q (b .0) (told-sound c) is ∙ ap (λ (t : View connections). F .run t b .place) view-same
@@ -251,7 +251,7 @@ module _ (M : Machine) (Sound : M .State → Type 0) (keeps : KeepsTo M Sound) (
         place = sym said-place-same ∙ on-ours .place ∙ place-same;
       }
 
-  passed-carried : (k : ℕ) (p : LineSegment) {L : Carrying M} {N : Carried M} → Carries M L N → Passed F t₀ k p N → Passed M s₀ k p L
+  passed-carried : (k : ℕ) (p : LineSegment) {L : Carrying M} {N : Carried M} → Carries M L N → WasPassed F t₀ k p N → WasPassed M s₀ k p L
   passed-carried k p none was = was
   passed-carried k p (sent c) was = passed-carried k p c was
   passed-carried k p (called {q = q} {b = b} {l = l} is c) was =

@@ -7,7 +7,7 @@ use Rattle.choice.specs.Choice.{if_then_else_}
 use Rattle.serial.specs.Ring.{wrap, ringPlus, ringMinus, nearest}
 use Rattle.serial.specs.Serial.{further}
 use Rattle.address.specs.Flows.{sameFlow}
-use Rattle.connection.specs.Ends.{sent, granted, written}
+use Rattle.connection.specs.Ends.{sent, granted, endsAfter}
 use Rattle.connection.specs.Ranges.{sequenceMet, ackMet}
 use Rattle.connection.specs.Stages.{lifeOf, withFin, finsAfter, openStage, stageAfter}
 use Rattle.connection.specs.Decision.{sameSyn, reply, verdictUnanswered, verdictByRanges, verdictOn, opened, repeated, answered, carried, passed}
@@ -27,7 +27,7 @@ use Rattle.honest.proofs.Check.{legal?, legal?-sound}
 computed :
     (legal? empty ends witness ≡ true)
     × (summaryOf (viewMachine (λ p. p)) empty witness ≡ record { others = 0 ∷ 11 ∷ 14 ∷ 0 ∷ []; place = 1; stage = 5 })
-unfolding if_then_else_ wrap ringPlus ringMinus nearest further sent granted written sequenceMet ackMet lifeOf withFin finsAfter openStage stageAfter sameSyn reply verdictUnanswered verdictByRanges verdictOn opened repeated answered carried passed finsOf stageOf firstFrom fromOpener fromAnswerer liveMatch vacant senderOf entryWith onEntry openingEntry unmatched onSegment sameFlow sentBy receivedBy highest some passes afterCall told Rules.answered
+unfolding if_then_else_ wrap ringPlus ringMinus nearest further sent granted endsAfter sequenceMet ackMet lifeOf withFin finsAfter openStage stageAfter sameSyn reply verdictUnanswered verdictByRanges verdictOn opened repeated answered carried passed finsOf stageOf firstFrom fromOpener fromAnswerer liveMatch vacant senderOf entryWith onEntry openingEntry unmatched onSegment sameFlow sentBy receivedBy highest some passes afterCall told Rules.hasAnswer
 computed = (refl, refl)
 
 pub witness-legal : Legal (viewMachine (λ p. p)) empty ends witness

@@ -15,13 +15,13 @@ module _ (B : Bodies) (n : ℕ) where
   fresh = record { clock = 0; places = n; entry = λ p. freeEntry B }
 
   -- each call is lent the table that the last one left
-  unfoldable pub tableAfter : List Ask → View B
-  tableAfter [] = fresh
-  tableAfter (a ∷ l) = after B (tableAfter l) (filter B (tableAfter l) a)
+  unfoldable pub viewAfter : List Ask → View B
+  viewAfter [] = fresh
+  viewAfter (a ∷ l) = after B (viewAfter l) (filter B (viewAfter l) a)
 
   -- what the next call comes to
   abbrev pub outcomeAfter : List Ask → Ask → Outcome B
-  outcomeAfter l a = filter B (tableAfter l) a
+  outcomeAfter l a = filter B (viewAfter l) a
 
 -- every call's segment is fit for the line, as all are that the packet reader gives
 unfoldable pub AllPlaceable : List Ask → Type 0
@@ -31,7 +31,7 @@ AllPlaceable (a ∷ l) = Placeable (a .segment) × AllPlaceable l
 -- after a list of calls the table is that of the histories in numbers, and the next call has the answer and the place that they give,
 -- whatever the numbers of the places are
 pub record FollowsHistories (n : ℕ) (l : List Ask) : Type 0 where
-  pub table : tableAfter connections n l ≡ inNumbers (tableAfter histories n l)
+  pub table : viewAfter connections n l ≡ inNumbers (viewAfter histories n l)
   pub answer :
       (a : Ask) → Placeable (a .segment) →
       answerOf connections (outcomeAfter connections n l a) ≡ answerOf histories (outcomeAfter histories n l a)
@@ -65,7 +65,7 @@ module _ (M : Machine) (s₀ : M .State) where
   -- after a list of calls the machine's view is the histories' table in numbers; a next call that asks has the answer and the place that
   -- they give, one that is refused has the answer of its refusal and no place, and one on another part of the table leaves the view
   pub record MachineFollows (n : ℕ) (l : List (M .Call)) : Type 0 where
-    pub table : M .view (stateAfter l) ≡ inNumbers (tableAfter histories n (asked M l))
+    pub table : M .view (stateAfter l) ≡ inNumbers (viewAfter histories n (asked M l))
     pub answer :
         (q : M .Call) (a : Ask) → M .reads q ≡ asks a →
         M .run (stateAfter l) q .answer ≡ answerOf histories (outcomeAfter histories n (asked M l) a)

@@ -5,7 +5,7 @@ use mathlib.Core.Path.{refl}
 use mathlib.Core.List.{List, [], _∷_}
 use Rattle.choice.specs.Choice.{_=ᵇ_}
 use Rattle.segment.specs.declared.Segment.{Segment}
-use Rattle.connection.specs.Ends.{zeros}
+use Rattle.connection.specs.Ends.{opener, answerer, zeros}
 use Rattle.connection.specs.Stages.{lifeOf}
 use Rattle.connection.specs.declared.Connection.{Connection}
 use Rattle.connection.specs.declared.End.{End}
@@ -31,7 +31,7 @@ histories = record {
   deadline = λ (h : History). h .deadline;
   verdict = λ (h : History) (i : ℕ) (g : Segment). judge (h .segments) (placed (h .segments) i g);
   passed = λ (h : History) (i : ℕ) (g : Segment) (now : ℕ). grown (h .side) (placed (h .segments) i g ∷ h .segments) now;
-  opened = λ (side : ℕ) (g : Segment) (now : ℕ). grown side (placed [] 0 g ∷ []) now;
+  opened = λ (side : ℕ) (g : Segment) (now : ℕ). grown side (placed [] opener g ∷ []) now;
   free = record { side = 0; deadline = 0; segments = [] };
   free-deadline = refl;
   freed = λ (h : History). stageOf (h .segments) =ᵇ 0;
@@ -42,7 +42,7 @@ histories = record {
 -- the opener's record and the answerer's: the six numbers modulo 2^32; zeros where no segment has passed
 abbrev pub recordsOf : List LineSegment → List End
 recordsOf [] = zeros ∷ zeros ∷ []
-recordsOf (p ∷ h) = onRing (numbersOf 0 (p ∷ h)) ∷ onRing (numbersOf 1 (p ∷ h)) ∷ []
+recordsOf (p ∷ h) = onRing (numbersOf opener (p ∷ h)) ∷ onRing (numbersOf answerer (p ∷ h)) ∷ []
 
 abbrev pub connectionOf : History → Connection
 connectionOf h = record {

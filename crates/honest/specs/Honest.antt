@@ -80,11 +80,11 @@ module _ (M : Machine) where
     said L q = M .run (told L .state) q
 
     -- an arrival of an end's k-th sending, p, was answered 0
-    abbrev pub Passed : ℕ → LineSegment → Events → Type 0
-    Passed k p [] = ⊥
-    Passed k p (send g ∷ L) = Passed k p L
-    Passed k p (call q l ∷ L) = (Is l k p × (passes (told L) q ≡ true)) ⊎ Passed k p L
-    Passed k p (delivery j g ∷ L) = Passed k p L
+    abbrev pub WasPassed : ℕ → LineSegment → Events → Type 0
+    WasPassed k p [] = ⊥
+    WasPassed k p (send g ∷ L) = WasPassed k p L
+    WasPassed k p (call q l ∷ L) = (Is l k p × (passes (told L) q ≡ true)) ⊎ WasPassed k p L
+    WasPassed k p (delivery j g ∷ L) = WasPassed k p L
 
   -- What is asked of each event, by those before it
 
@@ -133,7 +133,7 @@ module _ (M : Machine) where
     Fair (send p) L = (p .from < 2) × Formed p × Honest P p L
     Fair (call q l) L = FairCall l q L
     -- a segment is delivered only after an arrival of it, the opening or a later one, was answered 0
-    Fair (delivery k p) L = Passed s₀ k p L
+    Fair (delivery k p) L = WasPassed s₀ k p L
 
     abbrev pub Legal : Events → Type 0
     Legal [] = Unit {0}

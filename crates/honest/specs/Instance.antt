@@ -3,7 +3,7 @@ use Prim.Native.Nat.{ℕ, _≤_}
 use Rattle.rows.specs.Rows.{View, Ask, filter, answerOf, placeBy, after}
 use Rattle.rows.specs.Connections.{connections}
 use Rattle.history.specs.History.{Placeable}
-use Rattle.honest.specs.Sound.{SoundView, TypedView}
+use Rattle.honest.specs.Sound.{SoundView, TwoEndedView}
 use Rattle.honest.specs.Machine.{asks, Machine}
 
 -- a well-formed call: side 0 or 1, and a segment fit for the line, as all are that the packet reader gives
@@ -26,5 +26,5 @@ viewMachine number = record {
 }
 
 -- sound, and its numbers as their types have them
-abbrev pub SoundTypedView : View connections → Type 0
-SoundTypedView v = SoundView v × TypedView v
+abbrev pub SoundTwoEndedView : View connections → Type 0
+SoundTwoEndedView v = SoundView v × TwoEndedView v

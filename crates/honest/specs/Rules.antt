@@ -95,8 +95,8 @@ abbrev pub endOf : LineSegment → ℕ
 endOf p = p .start + p .length
 
 -- the opener has received a SYN+ACK; the answerer has received an ACK
-unfoldable pub answered : {Call : Type 0} → ℕ → List (Event Call) → Bool
-answered i L = if i =ᵇ 0 then some (λ g. g .flags =ᵇ SYN+ACK) (receivedBy 0 L) else some (λ g. ack (g .flags) =ᵇ 1) (receivedBy 1 L)
+unfoldable pub hasAnswer : {Call : Type 0} → ℕ → List (Event Call) → Bool
+hasAnswer i L = if i =ᵇ 0 then some (λ g. g .flags =ᵇ SYN+ACK) (receivedBy 0 L) else some (λ g. ack (g .flags) =ᵇ 1) (receivedBy 1 L)
 
 -- The honest rules
 
@@ -131,5 +131,5 @@ module _ (P : Pair) where
 
   -- each end repeats its first segment until it is answered, the answerer from the SYN's receipt on, and never again after
   pub data Honest {Call : Type 0} (p : LineSegment) (L : List (Event Call)) : Type 0 where
-    first : FirstSegment p → answered (p .from) L ≡ false → (p .from ≡ 1 → some (λ g. g .flags =ᵇ SYN) (receivedBy 1 L) ≡ true) → Honest p L
-    later : LaterSegment p L → answered (p .from) L ≡ true → Honest p L
+    first : FirstSegment p → hasAnswer (p .from) L ≡ false → (p .from ≡ 1 → some (λ g. g .flags =ᵇ SYN) (receivedBy 1 L) ≡ true) → Honest p L
+    later : LaterSegment p L → hasAnswer (p .from) L ≡ true → Honest p L

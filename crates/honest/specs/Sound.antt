@@ -17,8 +17,8 @@ SoundView v =
     (v .entry p ≡ freeEntry connections) ⊎ (soundConnection (v .clock) (v .entry p .connection) ≡ true)
 
 -- its numbers are as their types have them: each connection has two ends, with 32-bit numbers
-abbrev pub Typed : Connection → Type 0
-Typed c = (x : ℕ → End) × TwoEnds c x
+abbrev pub TwoEnded : Connection → Type 0
+TwoEnded c = (x : ℕ → End) × TwoEnds c x
 
-abbrev pub TypedView : View connections → Type 0
-TypedView v = (p : ℕ) → p < v .places → Typed (v .entry p .connection)
+abbrev pub TwoEndedView : View connections → Type 0
+TwoEndedView v = (p : ℕ) → p < v .places → TwoEnded (v .entry p .connection)

@@ -2,7 +2,7 @@
 use native.Mathlib.Omega.{arith}
 use Rattle.address.specs.declared.Version.the-variants.{V4}
 use Rattle.packet.specs.Read.{readIPv4}
-use Rattle.filter.proofs.Fits.{reply-small}
+use Rattle.filter.proofs.Within.{reply-small}
 use Rattle.quaybonnet.specs.Packed.{Unpacked}
 
 pub unpacked : Unpacked

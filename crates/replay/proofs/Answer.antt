@@ -27,7 +27,7 @@ use Rattle.rows.specs.Rows.{Blocked, Passed}
 use Rattle.packet.specs.Read.{readIPv4}
 use Rattle.filter.specs.Call.{Outcome, ipv4Outcome, replyOf, tableAfter}
 use Rattle.filter.specs.declared.Reply.{Reply}
-use Rattle.filter.proofs.Fits.{Within, outcome-within, reply-small}
+use Rattle.filter.proofs.Within.{Within, outcome-within, reply-small}
 use Rattle.replay.specs.Feed.{Memory, memory, withAnswer, withUsed, withResult, withLine, withTotal}
 use Rattle.replay.specs.Written.{lineRoom, resultRoom}
 use Rattle.replay.specs.declared.Progress.{Progress}

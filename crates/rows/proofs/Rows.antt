@@ -13,7 +13,7 @@ use Rattle.segment.specs.declared.Segment.{Segment}
 use Rattle.connection.specs.declared.Verdict.{Verdict}
 use Rattle.connection.specs.declared.Verdict.the-variants.{Pass, NotAllowed, SequenceMissed, AckMissed}
 use Rattle.rows.specs.Rows as rows
-use Rattle.rows.specs.Rows.{Bodies, Entry, View, Outcome, Blocked, Passed, opens, freeEntry, fromOpener, fromAnswerer, liveMatch, vacant, VacantWhereFreeOrExpired, lowestVacant, senderOf, SenderMatches, entryWith, entryAfter, byVerdict, onEntry, openingEntry, onVacant, unmatched, onFound, onSegment, answerOf, after}
+use Rattle.rows.specs.Rows.{Bodies, Entry, View, Outcome, Blocked, Passed, isOpening, freeEntry, fromOpener, fromAnswerer, liveMatch, vacant, VacantWhereFreeOrExpired, lowestVacant, senderOf, SenderMatches, entryWith, entryAfter, byVerdict, onEntry, openingEntry, onVacant, unmatched, onFound, onSegment, answerOf, after}
 use Rattle.rows.specs.declared.Found.{Found}
 use Rattle.rows.specs.declared.Found.the-variants.{At, Nothing}
 use Rattle.rows.proofs.Places.{found-passes, found-is-first}
@@ -113,7 +113,7 @@ module _ (B : Bodies) where
           Comes o
       makes :
           (p : ℕ) → o ≡ Passed p now (openingEntry B now side k g) → rows.search B v now side k ≡ Nothing → p < v .places →
-          opens side g ≡ true →
+          isOpening side g ≡ true →
           Comes o
 
     by-verdict : (p : ℕ) → rows.search B v now side k ≡ At p → Comes (onEntry B (v .entry p) p now side g)
@@ -130,9 +130,9 @@ module _ (B : Bodies) where
 
     by-vacant : rows.search B v now side k ≡ Nothing → Comes (unmatched B v now side k g)
     unfolding unmatched if_then_else_
-    by-vacant none = go (opens side g) refl (lowestVacant B v now) refl
+    by-vacant none = go (isOpening side g) refl (lowestVacant B v now) refl
       where
-        go : (t : Bool) → opens side g ≡ t → (r : Found) → lowestVacant B v now ≡ r → Comes (unmatched B v now side k g)
+        go : (t : Bool) → isOpening side g ≡ t → (r : Found) → lowestVacant B v now ≡ r → Comes (unmatched B v now side k g)
         go false closed r is = blocks 11 (rw closed) (omega arith) (omega arith)
         go true opening Nothing is = blocks 12 (rw (is, opening)) (omega arith) (omega arith)
         go true opening (At p) is = makes p (rw (is, opening)) none (omega (arith, found-passes _ _ _ _ is .2)) opening

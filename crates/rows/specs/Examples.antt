@@ -70,8 +70,8 @@ abbrev call : (side clock : ℕ) → Flow → (flags s n a w : ℕ) → Ask
 call side clock k flags s n a w = record { side = side; clock = clock; key = k; segment = segment flags s n a w }
 
 -- a SYN that matches nothing; and on the example's connection ten octets of the opener's, and a wider window of the answerer's
-abbrev opening : Ask
-opening = call 0 100 stranger SYN 7 1 0 1000
+abbrev strangersSyn : Ask
+strangersSyn = call 0 100 stranger SYN 7 1 0 1000
 
 abbrev tenOctets : (clock : ℕ) → Ask
 tenOctets clock = call 0 clock outward ACK 101 10 501 1000
@@ -99,7 +99,7 @@ pub record RowsGive : Type 0 where
   pub row-11-not-reversed : answer busy (call 1 100 outward ACK 501 0 101 3000) ≡ 11
   pub row-11-turned : answer turned (tenOctets 100) ≡ 11
   -- 12: such a SYN, but no place is free or expired
-  pub row-12 : answer full opening ≡ 12
+  pub row-12 : answer full strangersSyn ≡ 12
   -- 13: matched connection in stage 1, and not one of the three segments allowed there
   pub row-13 : answer full (tenOctets 100) ≡ 13
   -- 14: stage 2 or later, sequence range missed; 15: ACK set, acknowledgement range missed
@@ -109,13 +109,13 @@ pub record RowsGive : Type 0 where
   pub row-0-opener : answer busy (tenOctets 100) ≡ 0
   pub row-0-answerer : answer busy wider ≡ 0
   pub row-0-turned : answer turned (call 1 100 outward ACK 101 10 501 1000) ≡ 0
-  pub row-0-opening : answer busy opening ≡ 0
+  pub row-0-opening : answer busy strangersSyn ≡ 0
   pub place-found : place busy (tenOctets 100) ≡ 21
-  pub place-taken : place busy opening ≡ 20
+  pub place-taken : place busy strangersSyn ≡ 20
   -- every other answer gives place 65,535
-  pub place-none : place full opening ≡ 65535
+  pub place-none : place full strangersSyn ≡ 65535
   -- and changes nothing, the clock neither
-  pub left-blocked : left full opening ≡ full
+  pub left-blocked : left full strangersSyn ≡ full
   -- a pass changes only the header clock and that entry: deadline = clock used + life of the new stage
   pub left-clock : left busy (tenOctets 100) .clock ≡ 100
   pub left-places : left busy (tenOctets 100) .places ≡ 3
@@ -127,5 +127,5 @@ pub record RowsGive : Type 0 where
   pub set-back-clock : left busy (tenOctets 80) .clock ≡ 90
   pub set-back-entry : left busy (tenOctets 80) .entry 0 ≡ entry outward (connection 0 3 432000090 (numbers 111 2101 1000) (numbers 501 1501 2000))
   -- opening SYN: stage 1; a passed RST frees the entry, addresses and ports too
-  pub left-opening : left busy opening .entry 0 ≡ entry stranger (connection 0 1 60100 (numbers 8 8 1000) (numbers 0 0 1))
+  pub left-opening : left busy strangersSyn .entry 0 ≡ entry stranger (connection 0 1 60100 (numbers 8 8 1000) (numbers 0 0 1))
   pub left-reset : left busy (call 0 100 outward ACK+RST 101 0 501 1000) .entry 1 ≡ entry noFlow free

@@ -9,6 +9,7 @@ use Rattle.address.specs.Flows.{sameFlow, reversed, noFlow}
 use Rattle.address.specs.declared.Flow.{Flow}
 use Rattle.segment.specs.Flags.{SYN}
 use Rattle.segment.specs.declared.Segment.{Segment}
+use Rattle.connection.specs.Ends.{opener, answerer}
 use Rattle.connection.specs.Decision.{verdictNumber}
 use Rattle.connection.specs.declared.Verdict.{Verdict}
 use Rattle.connection.specs.declared.Verdict.the-variants.{Pass, NotAllowed, SequenceMissed, AckMissed}
@@ -22,7 +23,7 @@ pub record Bodies : Type 1 where
   -- the opener's side
   pub side : Body → ℕ
   pub deadline : Body → ℕ
-  -- rows 13 to 15 and 0, for a segment of sender 0, the opener, or 1, the answerer
+  -- rows 13 to 15 and 0, for a segment of the opener or the answerer
   pub verdict : Body → ℕ → Segment → Verdict
   -- what a pass of such a segment leaves, at a clock used
   pub passed : Body → ℕ → Segment → ℕ → Body
@@ -40,9 +41,13 @@ pub record Ask : Type 0 where
   pub key : Flow
   pub segment : Segment
 
--- an opening: SYN without ACK from side 0. Flags hold FIN, SYN, RST and ACK alone, and row 10 has refused SYN with FIN or RST
-abbrev pub opens : ℕ → Segment → Bool
-opens side g = (side =ᵇ 0) && (g .flags =ᵇ SYN)
+-- SYN without ACK from side 0, which alone opens a connection. Flags hold FIN, SYN, RST and ACK alone, and row 10 has refused SYN with FIN or RST
+abbrev pub isOpening : ℕ → Segment → Bool
+isOpening side g = (side =ᵇ 0) && (g .flags =ᵇ SYN)
+
+-- sides are 0 and 1
+abbrev pub otherSide : ℕ → ℕ
+otherSide side = 1 - side
 
 module _ (B : Bodies) where
   -- addresses and ports stand the opener's way round
@@ -65,19 +70,34 @@ module _ (B : Bodies) where
   abbrev pub freeEntry : Entry
   freeEntry = record { key = noFlow; connection = B .free }
 
-  -- The search
+  -- Clock and search ("The table"); k is a segment's addresses and ports, `now` the clock used
 
-  -- a segment on a side, with addresses and ports k, matches as the opener's if all are the opener's way round
+  -- "Clock used: the larger of the one given and the header's."
+  abbrev pub clockUsed : View → Ask → ℕ
+  clockUsed v a = max (a .clock) (v .clock)
+
+  -- "An entry is live if its deadline is above the clock used, else expired."
+  abbrev pub live : ℕ → Entry → Bool
+  live now e = now <ᵇ B .deadline (e .connection)
+
+  -- "A segment matches as the opener's if its side, addresses and ports are the opener's way round,"
   unfoldable pub fromOpener : Entry → ℕ → Flow → Bool
   fromOpener e side k = (side =ᵇ B .side (e .connection)) && sameFlow k (e .key)
 
-  -- as the answerer's if the side is the other one and they are reversed
+  -- "as the answerer's if the side is the other one and they are reversed."
   unfoldable pub fromAnswerer : Entry → ℕ → Flow → Bool
-  fromAnswerer e side k = (side =ᵇ 1 - B .side (e .connection)) && sameFlow (reversed k) (e .key)
+  fromAnswerer e side k = (side =ᵇ otherSide (B .side (e .connection))) && sameFlow (reversed k) (e .key)
 
-  -- live: deadline above the clock used; and it matches
   unfoldable pub liveMatch : ℕ → ℕ → Flow → Entry → Bool
-  liveMatch now side k e = (now <ᵇ B .deadline (e .connection)) && (fromOpener e side k || fromAnswerer e side k)
+  liveMatch now side k e = live now e && (fromOpener e side k || fromAnswerer e side k)
+
+  -- "The search takes the first live match from place 0 up."
+  abbrev pub search : View → ℕ → ℕ → Flow → Found
+  search v now side k = firstFrom (λ p. liveMatch now side k (v .entry p)) 0 (v .places)
+
+  -- a call finds no live match
+  abbrev pub FindsNone : View → Ask → Type 0
+  FindsNone v a = search v (clockUsed v a) (a .side) (a .key) ≡ Nothing
 
   -- free or expired, as a free entry's deadline is 0
   unfoldable pub vacant : ℕ → Entry → Bool
@@ -90,11 +110,7 @@ module _ (B : Bodies) where
       (vacant now e ≡ true → (e ≡ freeEntry) ⊎ (B .deadline (e .connection) ≤ now))
       × ((e ≡ freeEntry) ⊎ (B .deadline (e .connection) ≤ now) → vacant now e ≡ true)
 
-  -- the first live match from place 0 up
-  abbrev pub search : View → ℕ → ℕ → Flow → Found
-  search v now side k = firstFrom (λ p. liveMatch now side k (v .entry p)) 0 (v .places)
-
-  -- the lowest place that is free or expired
+  -- "An opening takes the lowest place that is free or expired."
   abbrev pub lowestVacant : View → ℕ → Found
   lowestVacant v now = firstFrom (λ p. vacant now (v .entry p)) 0 (v .places)
 
@@ -111,19 +127,19 @@ module _ (B : Bodies) where
 
   -- 11: it is not SYN without ACK from side 0
   unfoldable pub unmatched : View → ℕ → ℕ → Flow → Segment → Outcome
-  unmatched v now side k g = if opens side g then onVacant (lowestVacant v now) now side k g else Blocked 11
+  unmatched v now side k g = if isOpening side g then onVacant (lowestVacant v now) now side k g else Blocked 11
 
   -- Rows 13, 14, 15 and 0: one does
 
-  -- the sender of a match: 0 the opener, 1 the answerer. Its side tells, as the answerer's is not the opener's
+  -- the sender of a match: its side tells, as the answerer's is not the opener's
   unfoldable pub senderOf : Entry → ℕ → ℕ
-  senderOf e side = if side =ᵇ B .side (e .connection) then 0 else 1
+  senderOf e side = if side =ᵇ B .side (e .connection) then opener else answerer
 
   -- so it is the end that the segment matches as
   abbrev pub SenderMatches : Type 0
   SenderMatches =
       (e : Entry) (side : ℕ) (k : Flow) →
-      (fromOpener e side k ≡ true → senderOf e side ≡ 0) × (fromAnswerer e side k ≡ true → senderOf e side ≡ 1)
+      (fromOpener e side k ≡ true → senderOf e side ≡ opener) × (fromAnswerer e side k ≡ true → senderOf e side ≡ answerer)
 
   -- an entry by its connection after a pass: free, addresses and ports too, if the pass has freed that
   unfoldable pub entryWith : Entry → B .Body → Entry
@@ -153,10 +169,6 @@ module _ (B : Bodies) where
 
   unfoldable pub onSegment : View → ℕ → ℕ → Flow → Segment → Outcome
   onSegment v now side k g = onFound (search v now side k) v now side k g
-
-  -- clock used: the larger of the one given and the header's
-  abbrev pub clockUsed : View → Ask → ℕ
-  clockUsed v a = max (a .clock) (v .clock)
 
   abbrev pub filter : View → Ask → Outcome
   filter v a = onSegment v (clockUsed v a) (a .side) (a .key) (a .segment)

@@ -41,8 +41,8 @@ vacant-requires c κs = search needs
 enum-known-found : tie.Need-enum-known-found
 enum-known-found c = search needs
 
-opening-requires : tie.Need-opening-requires
-opening-requires c κs = search needs
+opening-entry-requires : tie.Need-opening-entry-requires
+opening-entry-requires c κs = search needs
 
 passed-requires : tie.Need-passed-requires
 passed-requires c κs = search needs
@@ -63,7 +63,7 @@ returns-2 c =
     let now = k .before .before .before .before .args .clock in
     let p = f .found .given .0 .0 in
     c .passed .ensures
-    ∙ ap (λ (e : Entry). decisionOf (Passed p now (viewed e))) (c .before .opening .ensures)
+    ∙ ap (λ (e : Entry). decisionOf (Passed p now (viewed e))) (c .before .opening-entry .ensures)
     ∙ ap decisionOf (sym (by-vacant k (At p) (f .found .given .1)))
 
 returns-3 : tie.Need-returns-3
@@ -81,7 +81,7 @@ unmatched-spec =
     returns
     vacant-requires
     enum-known-found
-    opening-requires
+    opening-entry-requires
     passed-requires
     enum-told
     blocked-requires-2

@@ -2,7 +2,7 @@ use mathlib.Core.Path.{ap, _∙_}
 use borrow.Author.Needs.{needs}
 use Rattle.address.specs.declared.Version.the-variants.{V4}
 use Rattle.packet.specs.Read.{readIPv4}
-use Rattle.filter.proofs.Fits.{reply-small}
+use Rattle.filter.proofs.Within.{reply-small}
 use Rattle.quaybonnet.specs.Packed.{packed}
 use Rattle.quaybonnet.proofs.qb_filter.Statement.{statement}
 use Rattle.quaybonnet.proofs.qb_filter.Tie as tie

@@ -10,8 +10,8 @@ element-copy-out-opener c = search needs
 granted-requires : tie.Need-granted-requires
 granted-requires c κs = search needs
 
-opening-requires : tie.Need-opening-requires
-opening-requires c κs = search needs
+begun-requires : tie.Need-begun-requires
+begun-requires c κs = search needs
 
 life-requires : tie.Need-life-requires
 life-requires c κs = search needs
@@ -29,7 +29,7 @@ answered-spec =
     (tie.spec
     element-copy-out-opener
     granted-requires
-    opening-requires
+    begun-requires
     life-requires
     add-deadline
     returns)

@@ -18,8 +18,8 @@ life-requires c κs = search needs
 add-deadline : tie.Need-add-deadline
 add-deadline c = search needs
 
-written-requires : tie.Need-written-requires
-written-requires c κs = search needs
+ends-after-requires : tie.Need-ends-after-requires
+ends-after-requires c κs = search needs
 
 returns : tie.Need-returns
 unfolding carried
@@ -35,7 +35,7 @@ returns c =
       side = a .self .side;
       fins = fins i;
       deadline = a .clock + life i;
-      ends = c .written .ensures i;
+      ends = c .ends-after .ensures i;
     }
 
 pub carried-spec : {M : Type 1} → statement M
@@ -46,5 +46,5 @@ carried-spec =
     stage-after-requires
     life-requires
     add-deadline
-    written-requires
+    ends-after-requires
     returns)

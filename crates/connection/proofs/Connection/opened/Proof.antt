@@ -3,8 +3,8 @@ use borrow.Author.Needs.{needs}
 use Rattle.connection.proofs.Connection.opened.Statement.{statement}
 use Rattle.connection.proofs.Connection.opened.Tie as tie
 
-opening-requires : tie.Need-opening-requires
-opening-requires c κs = search needs
+begun-requires : tie.Need-begun-requires
+begun-requires c κs = search needs
 
 life-requires : tie.Need-life-requires
 life-requires c κs = search needs
@@ -17,4 +17,4 @@ unfolding opened
 returns c = cc
 
 pub opened-spec : {M : Type 1} → statement M
-opened-spec = tie.close (tie.spec opening-requires life-requires add-deadline returns)
+opened-spec = tie.close (tie.spec begun-requires life-requires add-deadline returns)

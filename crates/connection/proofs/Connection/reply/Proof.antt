@@ -2,7 +2,7 @@ use mathlib.Core.Path.{_≡_, sym, ap, _∙_}
 use mathlib.Core.Bool.{true, false, not, Bool·not-not}
 use borrow.Author.Tests.{eq-eqb, ne-eqb}
 use Rattle.serial.specs.Serial.{sameSeq}
-use Rattle.connection.specs.Decision.{opener, reply}
+use Rattle.connection.specs.Decision.{openerOf, reply}
 use borrow.Author.Needs.{needs}
 use Rattle.connection.proofs.Connection.reply.Statement.{statement}
 use Rattle.connection.proofs.Connection.reply.Tie as tie
@@ -11,10 +11,10 @@ abbrev start : tie.Else1 → tie.Start
 start c = c .before .before .before .before
 
 -- whether the opener's end is what it acknowledges
-this-place : (c : tie.Else2) → let a = start (c .before .before) .args in sameSeq (a .segment .ack) (opener (a .t1) .end) ≡ true
+this-place : (c : tie.Else2) → let a = start (c .before .before) .args in sameSeq (a .segment .ack) (openerOf (a .t1) .end) ≡ true
 this-place c = sym (c .before .is .ensures) ∙ sym (Bool·not-not _) ∙ ap not (c .if2 .left)
 
-other-place : (c : tie.Then2) → let a = start (c .before .before) .args in sameSeq (a .segment .ack) (opener (a .t1) .end) ≡ false
+other-place : (c : tie.Then2) → let a = start (c .before .before) .args in sameSeq (a .segment .ack) (openerOf (a .t1) .end) ≡ false
 other-place c = sym (c .before .is .ensures) ∙ sym (Bool·not-not _) ∙ ap not (c .if2 .taken)
 
 element-copy-out-opener : tie.Need-element-copy-out-opener

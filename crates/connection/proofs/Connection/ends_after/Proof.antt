@@ -6,10 +6,10 @@ use borrow.Author.Tests.{not-true, not-false}
 use Rattle.choice.specs.Choice.{_=ᵇ_}
 use Rattle.choice.proofs.Choice.{if-true, if-false}
 use Rattle.segment.specs.Flags.{ack}
-use Rattle.connection.specs.Ends.{sender, sent, granted, written}
+use Rattle.connection.specs.Ends.{sender, sent, granted, endsAfter}
 use borrow.Author.Needs.{needs}
-use Rattle.connection.proofs.Connection.written.Statement.{statement}
-use Rattle.connection.proofs.Connection.written.Tie as tie
+use Rattle.connection.proofs.Connection.ends_after.Statement.{statement}
+use Rattle.connection.proofs.Connection.ends_after.Tie as tie
 
 abbrev start : tie.After-sent → tie.Start
 start c = c .before .before .before .before .before
@@ -46,7 +46,7 @@ array-set-from-ends : tie.Need-array-set-from-ends
 array-set-from-ends c = search needs
 
 returns : tie.Need-returns
-unfolding written
+unfolding endsAfter
 returns c =
     let a = start (c .before) .args in
     ap (set (a .t1 .ends) (a .sender)) (c .before .sent .ensures) ∙ sym (if-false _ _ _ (acks (c .before) ∙ not-true _ (c .if1 .taken)))
@@ -64,7 +64,7 @@ array-set-from-ends-2 : tie.Need-array-set-from-ends-2
 array-set-from-ends-2 c = search needs
 
 returns-2 : tie.Need-returns-2
-unfolding written
+unfolding endsAfter
 returns-2 c =
     let k = c .before in
     let s = start (k .before) in
@@ -72,8 +72,8 @@ returns-2 c =
     (λ i. set (set (a .t1 .ends) (a .sender) (k .before .sent .ensures i)) (1 - a .sender) (c .granted .ensures i))
     ∙ sym (if-true _ _ _ (acks (k .before) ∙ not-false _ (k .if1 .left)))
 
-pub written-spec : {M : Type 1} → statement M
-written-spec =
+pub ends-after-spec : {M : Type 1} → statement M
+ends-after-spec =
     tie.close
     (tie.spec
     has-ack-requires

@@ -1,6 +1,6 @@
 use borrow.Author.Needs.{needs}
-use Rattle.connection.proofs.End.opening.Statement.{statement}
-use Rattle.connection.proofs.End.opening.Tie as tie
+use Rattle.connection.proofs.End.begun.Statement.{statement}
+use Rattle.connection.proofs.End.begun.Tie as tie
 
 effective-window-requires : tie.Need-effective-window-requires
 effective-window-requires c κs = search needs
@@ -14,5 +14,5 @@ larger-requires c κs = search needs
 returns : tie.Need-returns
 returns c = cc
 
-pub opening-spec : {M : Type 1} → statement M
-opening-spec = tie.close (tie.spec effective-window-requires plus-requires larger-requires returns)
+pub begun-spec : {M : Type 1} → statement M
+begun-spec = tie.close (tie.spec effective-window-requires plus-requires larger-requires returns)

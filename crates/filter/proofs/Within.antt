@@ -18,7 +18,7 @@ use Rattle.rows.proofs.Rows.{Comes, blocks, passes, makes, comes}
 use Rattle.entry.specs.Layout.{entrySize, placeAt}
 use Rattle.entry.proofs.Places.{place-inside}
 use Rattle.filter.specs.Call.{Outcome, placesIn, tableOf, askOf, rows5to10, outcomeOf, replyOf, tableAfter}
-use Rattle.filter.specs.Decision.{decisionOf, written, Fits}
+use Rattle.filter.specs.Decision.{decisionOf, tableLeftBy, PassInside}
 use Rattle.filter.specs.declared.Decision.{Decision}
 use Rattle.filter.specs.declared.Reply.{Reply}
 use Rattle.filter.proofs.Rows.{legal-length-bounds, places-inside, places-most}
@@ -28,14 +28,14 @@ abbrev pub Within : Version → List ℕ → Outcome → Type 0
 Within v t (Blocked n) = (1 ≤ n) × (n ≤ 15)
 Within v t (Passed p now e) = (p < 512) × (placeAt v p + entrySize v ≤ length t)
 
-pub within-fits : (v : Version) (t : List ℕ) (o : Outcome) → Within v t o → Fits v t (decisionOf o)
+pub within-fits : (v : Version) (t : List ℕ) (o : Outcome) → Within v t o → PassInside v t (decisionOf o)
 within-fits v t (Blocked n) h = λ e. absurd (omega (arith, h .0))
 within-fits v t (Passed p now e) h = λ _. h .1
 
-pub written≡tableAfter : (v : Version) (t : List ℕ) (o : Outcome) → Within v t o → written v t (decisionOf o) ≡ tableAfter v t o
-unfolding written
-written≡tableAfter v t (Blocked n) h = if-=-not _ _ (λ (e : n ≡ 0). absurd (omega (arith, h .0)))
-written≡tableAfter v t (Passed p now e) h = if-= {a = 0} {b = 0} _ t refl
+pub tableLeftBy≡tableAfter : (v : Version) (t : List ℕ) (o : Outcome) → Within v t o → tableLeftBy v t (decisionOf o) ≡ tableAfter v t o
+unfolding tableLeftBy
+tableLeftBy≡tableAfter v t (Blocked n) h = if-=-not _ _ (λ (e : n ≡ 0). absurd (omega (arith, h .0)))
+tableLeftBy≡tableAfter v t (Passed p now e) h = if-= {a = 0} {b = 0} _ t refl
 
 pub reply≡replyOf : (o : Outcome) → _≡_ {A = Reply} (record { answer = decisionOf o .answer; place = decisionOf o .place }) (replyOf o)
 reply≡replyOf (Blocked n) = refl
@@ -73,7 +73,7 @@ module _ (v : Version) (side clock : ℕ) (t : List ℕ) (read : PacketRead) whe
       (λ legal. if-either (Within v t) _ _ _ (omega arith, omega arith)
       (let h = legal-length-bounds v _ (not-false _ legal) in read-within v t (h .0) (h .1) side clock read))))
 
-  pub decision-fits : (d : Decision) → d ≡ decisionOf (outcomeOf v side clock t read) → Fits v t d
+  pub decision-fits : (d : Decision) → d ≡ decisionOf (outcomeOf v side clock t read) → PassInside v t d
   decision-fits d e = rw e (within-fits v t (outcomeOf v side clock t read) outcome-within)
 
   -- an answer is at most 15, and a place at most 65,535

@@ -8,17 +8,17 @@ use Rattle.connection.specs.Ends.{sender}
 use Rattle.connection.specs.declared.End.{End}
 use Rattle.entry.specs.declared.Entry.{Entry}
 
-pub record TypedEnd (e : End) : Type 0 where
+pub record StorableEnd (e : End) : Type 0 where
   pub end : e .end .0 < 2 ^ 32
   pub edge : e .edge .0 < 2 ^ 32
   pub win : e .win .0 < 2 ^ 32
 
-pub record Typed (v : Version) (e : Entry) : Type 0 where
+pub record Storable (v : Version) (e : Entry) : Type 0 where
   pub stage : e .connection .stage < 2 ^ 8
   pub side : e .connection .side < 2 ^ 8
   pub fins : e .connection .fins < 2 ^ 8
   pub key : IsFlow v (e .key)
   pub deadline : e .connection .deadline < 2 ^ 64
   pub two-ends : length (e .connection .ends) ≡ 2
-  pub opener : TypedEnd (sender (e .connection .ends) 0)
-  pub answerer : TypedEnd (sender (e .connection .ends) 1)
+  pub opener : StorableEnd (sender (e .connection .ends) 0)
+  pub answerer : StorableEnd (sender (e .connection .ends) 1)

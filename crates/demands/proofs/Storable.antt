@@ -8,20 +8,20 @@ use Rattle.address.specs.declared.Version.{Version}
 use Rattle.connection.specs.Sound.{soundConnection, soundEnd}
 use Rattle.connection.specs.declared.End.{End}
 use Rattle.connection.proofs.Sound.{soundFins≤3, soundEnd-true, sound-facts}
-use Rattle.history.specs.Records.{Fits}
-use Rattle.entry.specs.Typed.{TypedEnd, Typed}
+use Rattle.history.specs.Records.{SeqNumsFit}
+use Rattle.entry.specs.Storable.{StorableEnd, Storable}
 use Rattle.entry.specs.declared.Entry.{Entry}
 use Rattle.honest.specs.Sound as honest
 
-typed-end : (x : End) → Fits x → soundEnd x ≡ true → TypedEnd x
-typed-end x fits sound = record { end = fits .end; edge = fits .edge; win = omega (arith, soundEnd-true x sound .1) }
+storable-end : (x : End) → SeqNumsFit x → soundEnd x ≡ true → StorableEnd x
+storable-end x fits sound = record { end = fits .end; edge = fits .edge; win = omega (arith, soundEnd-true x sound .1) }
 
 -- a sound connection between two endpoints makes an entry within its types
-pub typed-entry :
-    (v : Version) (now : ℕ) (e : Entry) → soundConnection now (e .connection) ≡ true → now < 2 ^ 48 → honest.Typed (e .connection) →
+pub storable-entry :
+    (v : Version) (now : ℕ) (e : Entry) → soundConnection now (e .connection) ≡ true → now < 2 ^ 48 → honest.TwoEnded (e .connection) →
     IsFlow v (e .key) →
-    Typed v e
-typed-entry v now e sound small (x, ends) fits =
+    Storable v e
+storable-entry v now e sound small (x, ends) fits =
     let f = sound-facts now (e .connection) sound in
     record {
       stage = omega (arith, f .stage-most);
@@ -30,6 +30,6 @@ typed-entry v now e sound small (x, ends) fits =
       key = fits;
       deadline = omega (arith, f .deadline);
       two-ends = rw (ends .two);
-      opener = rw (ends .two) (typed-end (x 0) (ends .opener) (rw (ends .two) at (f .opener)));
-      answerer = rw (ends .two) (typed-end (x 1) (ends .answerer) (rw (ends .two) at (f .answerer)));
+      opener = rw (ends .two) (storable-end (x 0) (ends .opener) (rw (ends .two) at (f .opener)));
+      answerer = rw (ends .two) (storable-end (x 1) (ends .answerer) (rw (ends .two) at (f .answerer)));
     }
