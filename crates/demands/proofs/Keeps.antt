@@ -55,7 +55,7 @@ module _ (v : Version) (t : List ℕ) (a : Ask) (s : SoundBytes v t) (brought : 
     entry-storable : Storable v (stored e)
     entry-storable =
         let fits = left .key (IsFlow v) (storable-free v .key) (brought .key) (storable-entryAt v t _ (s .octets) .key) in
-        ⊎-elim (λ free. rw free (storable-free v)) (λ sound. storable-entry v now (stored e) sound now-small (left .sound .typed) fits) entry-sound
+        ⊎-elim (λ free. rw free (storable-free v)) (λ sound. storable-entry v now (stored e) sound now-small (left .sound .two-ended) fits) entry-sound
 
   left-view : (o : Outcome connections) → LeftBy (tableOf v t) a o → tableOf v (tableAfter v t o) ≡ after connections (tableOf v t) o
   left-view (Blocked n) left = refl
@@ -111,9 +111,9 @@ module _ (v : Version) (read : List ℕ → PacketRead) (reader : ReaderOf v rea
     refusal-answered = λ t q n s is. ap (λ o. replyOf o .answer) (refused-outcome v read q t s n is);
     refusal-placed = λ t q n s is. ap (λ o. replyOf o .place) (refused-outcome v read q t s n is);
     refusal-blocks = λ q n is zero. omega (arith, refused-holds v read reader q n is);
-    answered = λ t q a s is. ap (λ o. replyOf o .answer) (asks-outcome v read q t s a is);
-    placed = λ t q a s is. ap (λ o. replyOf o .place) (asks-outcome v read q t s a is);
-    left = asks-left;
+    answer-by-rows = λ t q a s is. ap (λ o. replyOf o .answer) (asks-outcome v read q t s a is);
+    place-by-rows = λ t q a s is. ap (λ o. replyOf o .place) (asks-outcome v read q t s a is);
+    view-by-rows = asks-left;
     well-formed = asks-placeable;
     blocked-keeps = λ t q blocked. ap (tableOf v) (blocked-keeps v t (called v read t q) blocked);
     apart-keeps = λ t q s is. absurd (never-apart v read reader q is);

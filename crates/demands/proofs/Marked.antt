@@ -26,11 +26,11 @@ use Rattle.table.specs.Table.{headerClock}
 use Rattle.filter.specs.Call.{placesIn, tableOf, tableAfter}
 use Rattle.filter.proofs.Rows.{inside-places, legal-length-bounds}
 use Rattle.honest.specs.Machine.{asks}
-use Rattle.honest.specs.Marked.{after, empty, packet1, packet2, opened, stateK, entry11, state11, Name, example, C, Case, markedSet, isLeft, holds, allHold}
+use Rattle.honest.specs.Marked.{afterAsk, empty, packet1, packet2, afterSyn, stateK, entry11, state11, Name, example, C, Case, markedSet, isLeft, holds, allHold}
 use Rattle.honest.proofs.Marked.{marked}
 use Rattle.demands.specs.Bytes.{SoundBytes, readingOf}
 use Rattle.demands.specs.Packets.{fieldOctets, octetsIn, checksum, payloadOf, ipHeader, tcpHeader, pseudoHeader, packetOf, bytesCall}
-use Rattle.demands.specs.Marked.{saidTo, emptyBytes, openedBytes, stateKBytes, state11Bytes, bytesBefore, OnBytes, AllOnBytes}
+use Rattle.demands.specs.Marked.{saidTo, emptyBytes, afterSynBytes, stateKBytes, state11Bytes, bytesBefore, OnBytes, AllOnBytes}
 use Rattle.demands.proofs.View.{view-after}
 use Rattle.demands.proofs.SoundAfter.{sound-after}
 use Rattle.demands.proofs.Fresh.{fresh-bytes-sound, fresh-bytes-view}
@@ -48,14 +48,14 @@ Read a = readingOf readIPv4 (bytesCall a) ≡ asks a
 
 module _ (t : List ℕ) (T : View connections) (a : Ask) (is : Is t T) (read : Read a) where
   answer-same : saidTo t a .answer ≡ answerOf connections (filter connections T a)
-  answer-same = ipv4-keeps .answered t (bytesCall a) a (is .0) read ∙ ap (λ u. answerOf connections (filter connections u a)) (is .1)
+  answer-same = ipv4-keeps .answer-by-rows t (bytesCall a) a (is .0) read ∙ ap (λ u. answerOf connections (filter connections u a)) (is .1)
 
   place-same : saidTo t a .place ≡ placeBy (λ p. p) (filter connections T a)
-  place-same = ipv4-keeps .placed t (bytesCall a) a (is .0) read ∙ ap (λ u. placeBy (λ p. p) (filter connections u a)) (is .1)
+  place-same = ipv4-keeps .place-by-rows t (bytesCall a) a (is .0) read ∙ ap (λ u. placeBy (λ p. p) (filter connections u a)) (is .1)
 
-  next-is : Is (saidTo t a .next) (after T a)
+  next-is : Is (saidTo t a .next) (afterAsk T a)
   next-is =
-      (ipv4-keeps .sound-kept t (bytesCall a) (is .0), ipv4-keeps .left t (bytesCall a) a (is .0) read ∙ ap (λ u. after u a) (is .1))
+      (ipv4-keeps .sound-kept t (bytesCall a) (is .0), ipv4-keeps .view-by-rows t (bytesCall a) a (is .0) read ∙ ap (λ u. afterAsk u a) (is .1))
 
 some-place : (t : List ℕ) → SoundBytes V4 t → 0 < placesIn V4 t
 some-place t s = inside-places V4 (length t) 0 (omega (arith, legal-length-bounds V4 (length t) (s .legal) .0, next-place V4 0))
@@ -91,13 +91,13 @@ empty-is : Is emptyBytes empty
 unfolding emptyBytes
 empty-is = (fresh-bytes-sound V4 64 (omega arith) (omega arith), fresh-bytes-view V4 64)
 
-opened-is : Is openedBytes opened
-unfolding openedBytes
-opened-is = next-is emptyBytes empty packet1 empty-is (all-read .0)
+afterSyn-is : Is afterSynBytes afterSyn
+unfolding afterSynBytes
+afterSyn-is = next-is emptyBytes empty packet1 empty-is (all-read .0)
 
 stateK-is : Is stateKBytes stateK
 unfolding stateKBytes
-stateK-is = next-is openedBytes opened packet2 opened-is (all-read .1)
+stateK-is = next-is afterSynBytes afterSyn packet2 afterSyn-is (all-read .1)
 
 storable11 : Storable V4 (stored entry11)
 storable11 = record {
@@ -129,8 +129,8 @@ state11-is = written11-is emptyBytes empty-is
 
 -- by a case's name, as `bytesBefore`
 abbrev tableBefore : Name → View connections
-tableBefore (example n) = if n =ᵇ 1 then empty else if n =ᵇ 2 then opened else stateK
-tableBefore (C n) = if n =ᵇ 11 then state11 else if n =ᵇ 12 then opened else stateK
+tableBefore (example n) = if n =ᵇ 1 then empty else if n =ᵇ 2 then afterSyn else stateK
+tableBefore (C n) = if n =ᵇ 11 then state11 else if n =ᵇ 12 then afterSyn else stateK
 
 either-is : (b : Bool) {t u : List ℕ} {T U : View connections} → Is t T → Is u U → Is (if b then t else u) (if b then T else U)
 unfolding if_then_else_
@@ -138,8 +138,8 @@ either-is true first second = first
 either-is false first second = second
 
 before-is : (n : Name) → Is (bytesBefore n) (tableBefore n)
-before-is (example n) = either-is (n =ᵇ 1) empty-is (either-is (n =ᵇ 2) opened-is stateK-is)
-before-is (C n) = either-is (n =ᵇ 11) state11-is (either-is (n =ᵇ 12) opened-is stateK-is)
+before-is (example n) = either-is (n =ᵇ 1) empty-is (either-is (n =ᵇ 2) afterSyn-is stateK-is)
+before-is (C n) = either-is (n =ᵇ 11) state11-is (either-is (n =ᵇ 12) afterSyn-is stateK-is)
 
 -- The list
 

@@ -17,7 +17,7 @@ use Rattle.filter.specs.Call.{Outcome, placesIn, outcomeOf, replyOf, tableAfter
 use Rattle.honest.specs.Rules.{Event, Pair}
 use Rattle.honest.specs.Honest.{Legal, NeverBlocked, Demand3}
 use Rattle.honest.specs.Histories.{histories, inNumbers}
-use Rattle.honest.specs.Demand2.{tableAfter as historiesAfter, asked, stateAfter, MachineFollows}
+use Rattle.honest.specs.Demand2.{viewAfter as historiesAfter, asked, stateAfter, MachineFollows}
 use Rattle.demands.specs.Bytes.{BytesCall, SoundBytes, bytesMachine}
 use Rattle.demands.specs.Encoded.{tableBytes}
 

@@ -26,11 +26,11 @@ unfoldable pub emptyBytes : List ℕ
 emptyBytes = freshBytes V4 64
 
 -- what the example's two passes leave
-unfoldable pub openedBytes : List ℕ
-openedBytes = saidTo emptyBytes packet1 .next
+unfoldable pub afterSynBytes : List ℕ
+afterSynBytes = saidTo emptyBytes packet1 .next
 
 unfoldable pub stateKBytes : List ℕ
-stateKBytes = saidTo openedBytes packet2 .next
+stateKBytes = saidTo afterSynBytes packet2 .next
 
 -- C11's own records, at place 0 of an all-zero table
 unfoldable pub state11Bytes : List ℕ
@@ -38,8 +38,8 @@ state11Bytes = tableAfter V4 emptyBytes (Passed 0 0 entry11)
 
 -- the table before a case's call
 abbrev pub bytesBefore : Name → List ℕ
-bytesBefore (example n) = if n =ᵇ 1 then emptyBytes else if n =ᵇ 2 then openedBytes else stateKBytes
-bytesBefore (C n) = if n =ᵇ 11 then state11Bytes else if n =ᵇ 12 then openedBytes else stateKBytes
+bytesBefore (example n) = if n =ᵇ 1 then emptyBytes else if n =ᵇ 2 then afterSynBytes else stateKBytes
+bytesBefore (C n) = if n =ᵇ 11 then state11Bytes else if n =ᵇ 12 then afterSynBytes else stateKBytes
 
 -- The claim
 

@@ -20,8 +20,8 @@ use Rattle.history.specs.History.{LineSegment, numbersOf, onWire, judge, Holds}
 use Rattle.history.proofs.Step.{Near, start-near, ack-near, ackRange-small}
 use Rattle.history.proofs.Verdict.{Unanswered, Answered, spans, judged-answered, judged-unanswered}
 use Rattle.history.proofs.Pass.{carried-holds, carried-answered, repeated-holds, repeated-unanswered, answered-holds, answered-answered, answerer-begins}
-use Rattle.honest.specs.Rules.{Event, Pair, InOrder}
-use Rattle.honest.proofs.Sends.{SentWith, First, Fact, Protocol, rises-more}
+use Rattle.honest.specs.Rules.{Event, Pair}
+use Rattle.honest.proofs.Sends.{SentWith, NoneLater, First, Fact, Protocol, rises-more}
 use Rattle.honest.proofs.Bounds as Bounds
 
 -- What a pass that is no reset leaves of side and deadline
@@ -67,7 +67,7 @@ module _
     pub heard-after : Heard P (p ∷ h)
 
   -- from stage 2 on
-  module _ (in-order : InOrder Arrived (p .from) k) (a : Answered h) (begun : (i : ℕ) → i < 2 → P .start i + 1 ≤ numbersOf i h .end) where
+  module _ (in-order : NoneLater Arrived (p .from) k) (a : Answered h) (begun : (i : ℕ) → i < 2 → P .start i + 1 ≤ numbersOf i h .end) where
     other-known : 1 - p .from < 2
     other-known = omega (arith, fact .end-known)
 
@@ -140,6 +140,6 @@ module _
                 omega (arith, end, x .rule .start)
             begun-both answerer (suc (suc i)) known = absurd (omega arith)
 
-  pub passing : InOrder Arrived (p .from) k → Heard P h → Passing
+  pub passing : NoneLater Arrived (p .from) k → Heard P h → Passing
   passing in-order (quiet u begun) = first-passing u begun
   passing in-order (both a begun) = later-passing in-order a begun

@@ -16,14 +16,14 @@ use Rattle.history.specs.Numbers.{Numbers, boundsI-II, boundsIII-IV}
 use Rattle.history.specs.History.{LineSegment, numbersOf, stageOf, judge, sameSynOnLine, replyOnLine, judgeUnanswered, Formed}
 use Rattle.history.proofs.Step.{Spans}
 use Rattle.history.proofs.Verdict.{Unanswered, Answered, spans}
-use Rattle.honest.specs.Rules.{Event, Pair, InOrder, highest, ackOf, endOf, hasAnswer}
+use Rattle.honest.specs.Rules.{Event, Pair, highest, ackOf, endOf, hasAnswer}
 use Rattle.honest.proofs.Lists.{In, highest-lub, endBy-mine, numbers-up, end-lub}
-use Rattle.honest.proofs.Sends.{SentWith, ackFrom, Later, First, Fact, Protocol, FirstFacts, first-facts, answered-in, passed-sent}
+use Rattle.honest.proofs.Sends.{SentWith, NoneLater, ackFrom, Later, First, Fact, Protocol, FirstFacts, first-facts, answered-in, passed-sent}
 
 module _
     {Call : Type 0} (P : Pair) (h : List LineSegment) (Arrived : ℕ → LineSegment → Type 0) (L : List (Event Call))
     (inv : Protocol P h Arrived L) where
-  module _ (k : ℕ) (p : LineSegment) (s : ℕ) (sent : SentWith k p s L) (in-order : InOrder Arrived (p .from) k) where
+  module _ (k : ℕ) (p : LineSegment) (s : ℕ) (sent : SentWith k p s L) (in-order : NoneLater Arrived (p .from) k) where
     fact : Fact P h p s L
     fact = inv .facts k p s sent
 

@@ -14,17 +14,18 @@ use Rattle.address.specs.declared.Flow.{Flow}
 use Rattle.address.proofs.Flows.{same-true}
 use Rattle.segment.specs.Flags.{syn, rst, ack, SYN, SYN+ACK}
 use Rattle.segment.specs.declared.Segment.{Segment}
+use Rattle.connection.specs.Ends.{otherEnd}
 use Rattle.connection.specs.Ranges.{widest}
-use Rattle.rows.specs.Rows as rows
-use Rattle.rows.specs.Rows.{View, Ask}
+use Rattle.rows.specs.Rows.{View, Ask, search, clockUsed}
 use Rattle.rows.specs.Connections.{connections}
 use Rattle.rows.specs.declared.Found.{Found}
 use Rattle.rows.specs.declared.Found.the-variants.{At, Nothing}
 use Rattle.history.specs.History.{LineSegment, onWire, Formed}
 use Rattle.honest.specs.Machine.{asks, Machine}
-use Rattle.honest.specs.Rules.{Label, opening, arrival, other, Is, Event, send, call, delivery, Pair, sentBy, Sent, Arrived, InOrder, receivedBy, highest, some, ackOf, edgeOf, endOf, hasAnswer, sideOf, keyOf, FirstSegment, LaterSegment, Honest, first, later}
-use Rattle.honest.specs.Honest.{told, passes, Live, said, WasPassed, Arrives, Opening, Arrival, FairCall, Fair, Legal}
+use Rattle.honest.specs.Rules.{Label, opening, arrival, other, Is, Event, send, call, delivery, Pair, sideOf, keyOf, sentBy, Sent, Arrived, receivedBy, highest, some, ackOf, edgeOf, endOf, hasAnswer, OpenersSyn, AnswerersSynAck, LaterSegment, Allowed, openers-syn, answerers-syn-ack, later}
+use Rattle.honest.specs.Honest.{told, passes, Live, said, WasPassed, bringing, Arrives, InOrder, Opening, Arrival, FairCall, Fair, Legal}
 use Rattle.honest.specs.Instance.{ViewCall, viewMachine}
+use Rattle.honest.proofs.Sends.{NoneLater}
 
 -- Tests with what they show
 
@@ -122,10 +123,13 @@ formed p =
 
 -- where neither this sending nor one before is past the k-th of end i
 pub one-more :
-    {A : ℕ → LineSegment → Type 0} (i k n : ℕ) (p : LineSegment) → (p .from ≡ i → n ≤ k) → InOrder A i k →
-    InOrder (λ j g. ((j ≡ n) × (g ≡ p)) ⊎ A j g) i k
+    {A : ℕ → LineSegment → Type 0} (i k n : ℕ) (p : LineSegment) → (p .from ≡ i → n ≤ k) → NoneLater A i k →
+    NoneLater (λ j g. ((j ≡ n) × (g ≡ p)) ⊎ A j g) i k
 one-more i k n p this before j g (inl (same, is)) of-i = rw same (this (ap (λ (x : LineSegment). x .from) (sym is) ∙ of-i))
 one-more i k n p this before j g (inr was) of-i = before j g was of-i
+
+abbrev foundBy : View connections → Ask → Found
+foundBy v a = search connections v (clockUsed connections v a) (a .side) (a .key)
 
 module _ (t₀ : View connections) (P : Pair) where
   abbrev M : Machine
@@ -134,18 +138,37 @@ module _ (t₀ : View connections) (P : Pair) where
   abbrev Seen : Type 0
   Seen = List (Event ViewCall)
 
-  abbrev firstSegment : (p : LineSegment) → Test (FirstSegment P p)
-  firstSegment p =
-      so (λ h. record { flags = h .0; start = h .1 .0; acks = h .1 .1 })
-      (both (equal (p .flags) (if p .from =ᵇ 0 then SYN else SYN+ACK))
-      (both (equal (p .start) (P .start (p .from))) (ifEqual (p .from) 1 (equal (p .acked) (P .start 0 + 1)))))
+  abbrev openersSyn : (p : LineSegment) (L : Seen) → Test (OpenersSyn P p L)
+  openersSyn p L =
+      so (λ h. record { by-opener = h .0; flags = h .1 .0; start = h .1 .1 .0; until-answer = h .1 .1 .1 })
+      (both (equal (p .from) 0)
+      (both (equal (p .flags) SYN)
+      (both (equal (p .start) (P .start 0)) (isFalse (hasAnswer 0 L)))))
+
+  abbrev answerersSynAck : (p : LineSegment) (L : Seen) → Test (AnswerersSynAck P p L)
+  answerersSynAck p L =
+      so (λ h. record {
+        by-answerer = h .0;
+        has-syn = h .1 .0;
+        flags = h .1 .1 .0;
+        start = h .1 .1 .1 .0;
+        acks-syn = h .1 .1 .1 .1 .0;
+        until-answer = h .1 .1 .1 .1 .1;
+      })
+      (both (equal (p .from) 1)
+      (both (isTrue (some (λ g. g .flags =ᵇ SYN) (receivedBy 1 L)))
+      (both (equal (p .flags) SYN+ACK)
+      (both (equal (p .start) (P .start 1))
+      (both (equal (p .acked) (P .start 0 + 1)) (isFalse (hasAnswer 1 L)))))))
 
   abbrev laterSegment : (p : LineSegment) (L : Seen) → Test (LaterSegment P p L)
   laterSegment p L =
       so (λ h. record {
-        has-ack = h .0 .0;
-        no-syn = h .0 .1 .0;
-        no-reset = h .0 .1 .1;
+        by-either = h .0 .0;
+        after-answer = h .0 .1 .0;
+        has-ack = h .0 .1 .1 .0;
+        no-syn = h .0 .1 .1 .1 .0;
+        no-reset = h .0 .1 .1 .1 .1;
         starts = h .1 .0 .0;
         ends = h .1 .0 .1;
         acks-syn = h .1 .1 .0;
@@ -153,19 +176,18 @@ module _ (t₀ : View connections) (P : Pair) where
         acks-rise = h .1 .1 .1 .1;
       })
       (both
-      (both (equal (ack (p .flags)) 1) (both (equal (syn (p .flags)) 0) (equal (rst (p .flags)) 0)))
+      (both (below (p .from) 2)
+      (both (isTrue (hasAnswer (p .from) L))
+      (both (equal (ack (p .flags)) 1) (both (equal (syn (p .flags)) 0) (equal (rst (p .flags)) 0)))))
       (both
       (both (atMost (highest ackOf (receivedBy (p .from) L)) (p .start)) (atMost (endOf p) (highest edgeOf (receivedBy (p .from) L))))
-      (both (atMost (P .start (1 - p .from) + 1) (p .acked))
+      (both (atMost (P .start (otherEnd (p .from)) + 1) (p .acked))
       (both (atMost (p .acked) (highest endOf (receivedBy (p .from) L))) (atMost (highest ackOf (sentBy (p .from) L)) (p .acked))))))
 
-  abbrev honest : (p : LineSegment) (L : Seen) → Test (Honest P p L)
-  honest p L =
-      so (λ h. ⊎-elim (λ f. first (f .0) (f .1 .0) (f .1 .1)) (λ l. later (l .0) (l .1)) h)
-      (either
-      (both (firstSegment p)
-      (both (isFalse (hasAnswer (p .from) L)) (ifEqual (p .from) 1 (isTrue (some (λ g. g .flags =ᵇ SYN) (receivedBy 1 L))))))
-      (both (laterSegment p L) (isTrue (hasAnswer (p .from) L))))
+  abbrev allowed : (p : LineSegment) (L : Seen) → Test (Allowed P p L)
+  allowed p L =
+      so (λ h. ⊎-elim (λ r. openers-syn r) (λ h. ⊎-elim (λ r. answerers-syn-ack r) (λ r. later r) h) h)
+      (either (openersSyn p L) (either (answerersSynAck p L) (laterSegment p L)))
 
   abbrev wasSent : (k : ℕ) (p : LineSegment) (L : Seen) → Test (Sent k p L)
   wasSent k p [] = no
@@ -173,42 +195,41 @@ module _ (t₀ : View connections) (P : Pair) where
   wasSent k p (call q l ∷ L) = wasSent k p L
   wasSent k p (delivery j g ∷ L) = wasSent k p L
 
-  abbrev arrives : (k : ℕ) (p : LineSegment) (q : ViewCall) (L : Seen) → Test (Arrives M P k p q L)
-  arrives k p q L =
-      so (λ h. record {
-        sent = h .0;
-        clock = q .0 .clock;
-        brings = λ i. asks (record { side = h .1 .0 i; clock = q .0 .clock; key = h .1 .1 .0 i; segment = h .1 .1 .1 i });
-      })
+  -- sent before, and brought by a call with the clock that it is given
+  abbrev Brings : (k : ℕ) (p : LineSegment) (q : ViewCall) (L : Seen) → Type 0
+  Brings k p q L = Sent k p L × (asks (q .0) ≡ asks (bringing M P p (q .0 .clock)))
+
+  abbrev brings : (k : ℕ) (p : LineSegment) (q : ViewCall) (L : Seen) → Test (Brings k p q L)
+  brings k p q L =
+      so (λ h. (h .0, λ i. asks (record { side = h .1 .0 i; clock = q .0 .clock; key = h .1 .1 .0 i; segment = h .1 .1 .1 i })))
       (both (wasSent k p L)
       (both (equal (q .0 .side) (sideOf P (p .from)))
       (both (sameKey (q .0 .key) (keyOf P (p .from))) (sameSegment (q .0 .segment) (onWire p)))))
 
-  pub finds-none :
-      (b : Ask) (v : View connections) → rows.search connections v (rows.clockUsed connections v b) (b .side) (b .key) ≡ Nothing →
-      (a : Ask) → asks b ≡ asks a → rows.search connections v (rows.clockUsed connections v a) (a .side) (a .key) ≡ Nothing
-  finds-none b t unfound a is = let same : b ≡ a = cc in rw same at unfound
+  abbrev arrives : (k : ℕ) (p : LineSegment) (q : ViewCall) (L : Seen) → Brings k p q L → Arrives M P k p q L
+  arrives k p q L h = record { sent = h .0; clock = q .0 .clock; brings = h .1 }
 
   abbrev opens : (k : ℕ) (p : LineSegment) (q : ViewCall) (L : Seen) → Test (Opening M t₀ P k p q L)
   opens k p q L =
       so (λ h. record {
         first-one = h .0;
-        arrives = h .1 .0;
-        opener = h .1 .1 .0;
-        finds-none = finds-none (q .0) (told M t₀ L .state) (h .1 .1 .1 .0);
-        answered-0 = h .1 .1 .1 .1;
+        arrives = arrives k p q L (h .1 .0);
+        by-opener = h .1 .1 .0;
+        is-syn = h .1 .1 .1 .0;
+        finds-none = h .1 .1 .1 .1 .0;
+        answered-0 = h .1 .1 .1 .1 .1;
       })
-      (both (isFalse (told M t₀ L .opened))
-      (both (arrives k p q L)
+      (both (isFalse (told M t₀ L .openingSeen))
+      (both (brings k p q L)
       (both (equal (p .from) 0)
-      (both (nothing (rows.search connections (told M t₀ L .state) (rows.clockUsed connections (told M t₀ L .state) (q .0)) (q .0 .side) (q .0 .key)))
-      (isTrue (passes M (told M t₀ L) q))))))
+      (both (equal (p .flags) SYN)
+      (both (nothing (foundBy (told M t₀ L .state) (bringing M P p (q .0 .clock)))) (isTrue (passes M (told M t₀ L) q)))))))
 
   abbrev isLive : (q : ViewCall) (L : Seen) → Test (Live M (told M t₀ L) q)
   isLive q L = so (λ under. omega (arith, under)) (below (max (q .0 .clock) (told M t₀ L .passClock)) (told M t₀ L .until))
 
   -- no later sending of end i has arrived
-  abbrev inOrder : (i k : ℕ) (L : Seen) → Test (InOrder (λ j g. Arrived j g L) i k)
+  abbrev inOrder : (i k : ℕ) (L : Seen) → Test (InOrder M i k L)
   inOrder i k [] = yes (λ j g never. absurd never)
   inOrder i k (send p ∷ L) = inOrder i k L
   inOrder i k (call q (opening n p) ∷ L) = so (λ h. one-more i k n p (h .0) (h .1)) (both (ifEqual (p .from) i (atMost n k)) (inOrder i k L))
@@ -218,8 +239,8 @@ module _ (t₀ : View connections) (P : Pair) where
 
   abbrev comes : (k : ℕ) (p : LineSegment) (q : ViewCall) (L : Seen) → Test (Arrival M t₀ P k p q L)
   comes k p q L =
-      so (λ h. record { after-opening = h .0; arrives = h .1 .0; in-order = h .1 .1 .0; live = h .1 .1 .1 })
-      (both (isTrue (told M t₀ L .opened)) (both (arrives k p q L) (both (inOrder (p .from) k L) (isLive q L))))
+      so (λ h. record { after-opening = h .0; arrives = arrives k p q L (h .1 .0); in-order = h .1 .1 .0; live = h .1 .1 .1 })
+      (both (isTrue (told M t₀ L .openingSeen)) (both (brings k p q L) (both (inOrder (p .from) k L) (isLive q L))))
 
   -- refused, or passed elsewhere, or once the connection has expired, or before it was opened
   abbrev elsewhere : (q : ViewCall) (L : Seen) → Test (FairCall M t₀ P other q L)
@@ -228,7 +249,7 @@ module _ (t₀ : View connections) (P : Pair) where
       ⊎-elim (λ f. false-true (sym f ∙ on-ours .after-opening))
       (⊎-elim (λ f. false-true (sym f ∙ lt-ltb (max (q .0 .clock) (told M t₀ L .passClock)) (told M t₀ L .until) (omega (arith, on-ours .live))))
       (⊎-elim (λ f. false-true (sym f ∙ on-ours .answered-0)) (λ f. false-true (sym f ∙ eq-eqb _ _ (on-ours .place))))) h)
-      (either (isFalse (told M t₀ L .opened))
+      (either (isFalse (told M t₀ L .openingSeen))
       (either (isFalse (isLive q L .holds))
       (either (isFalse (passes M (told M t₀ L) q)) (isFalse (said M t₀ L q .place =ᵇ told M t₀ L .place)))))
 
@@ -249,7 +270,7 @@ module _ (t₀ : View connections) (P : Pair) where
   hasPassed k p (delivery j g ∷ L) = hasPassed k p L
 
   abbrev fair : (x : Event ViewCall) (L : Seen) → Test (Fair M t₀ P x L)
-  fair (send p) L = so (λ h. (h .0, h .1 .0, h .1 .1)) (both (below (p .from) 2) (both (formed p) (honest p L)))
+  fair (send p) L = so (λ h. record { allowed = h .0; formed = h .1 }) (both (allowed p L) (formed p))
   fair (call q l) L = fairCall l q L
   fair (delivery k p) L = hasPassed k p L
 

@@ -36,7 +36,7 @@ module _
   view-next s q (refused m) l sound-s e before =
       keeps .blocked-keeps s q (λ zero-answer. keeps .refusal-blocks q m e (sym (keeps .refusal-answered s q m sound-s e) ∙ zero-answer)) ∙ before
   view-next s q (asks a) l sound-s e before =
-      keeps .left s q a sound-s e ∙ ap (λ (v : View connections). after connections v (filter connections v a)) before
+      keeps .view-by-rows s q a sound-s e ∙ ap (λ (v : View connections). after connections v (filter connections v a)) before
   view-next s q apart l sound-s e before = keeps .apart-keeps s q sound-s e ∙ before
 
   view-after : (l : List (M .Call)) → M .view (stateAfter M s₀ l) ≡ viewAfter connections n (asked M l)
@@ -51,11 +51,11 @@ module _
       record {
         table = view-after l ∙ follows .table;
         answer = λ q a e.
-            keeps .answered s q a (stays-sound l) e
+            keeps .answer-by-rows s q a (stays-sound l) e
             ∙ ap (λ (v : View connections). answerOf connections (filter connections v a)) (view-after l)
             ∙ follows .answer a (keeps .well-formed q a e);
         place = λ q a e.
-            keeps .placed s q a (stays-sound l) e
+            keeps .place-by-rows s q a (stays-sound l) e
             ∙ ap (λ (v : View connections). placeBy (M .number) (filter connections v a)) (view-after l)
             ∙ follows .place (M .number) a (keeps .well-formed q a e);
         refusal-answer = λ q m e. keeps .refusal-answered s q m (stays-sound l) e;

@@ -15,7 +15,7 @@ use Rattle.connection.specs.Decision.{verdictOn, passed, opened}
 use Rattle.connection.specs.declared.Connection.{Connection}
 use Rattle.connection.specs.declared.Verdict.the-variants.{Pass}
 use Rattle.rows.specs.Rows as rows
-use Rattle.rows.specs.Rows.{Ask, View, Entry, WasPassed as Passes, clockUsed, senderOf, entryWith, entryAfter, onEntry, filter, answerOf, placeBy, after}
+use Rattle.rows.specs.Rows.{Ask, View, Entry, Passed as Passes, clockUsed, senderOf, entryWith, entryAfter, onEntry, filter, answerOf, placeBy, after}
 use Rattle.rows.specs.Connections.{connections}
 use Rattle.rows.specs.declared.Found.the-variants.{Nothing}
 use Rattle.rows.proofs.Rows.{onSegment-by-search, onEntry-by-verdict}
@@ -25,9 +25,9 @@ use Rattle.history.proofs.Pass.{opened-unanswered, opened-holds, opener-begins}
 use Rattle.honest.specs.Sound.{SoundView}
 use Rattle.honest.specs.Machine.{Reading, refused, asks, apart, Machine, clockIn, KeepsTo}
 use Rattle.honest.specs.Rules.{Label, opening, arrival, other, Event, send, call, delivery, Pair, sideOf, keyOf, Sent, Arrived, receivedBy, Honest}
-use Rattle.honest.specs.Honest.{Told, passes, nextClock, afterSegment, afterCall, told, said, Live, WasPassed, PassedOnOurs, Opening, Arrival, FairCall, Legal, NeverBlocked, Demand3}
+use Rattle.honest.specs.Honest.{Told, passes, nextClock, afterSegment, afterCall, told, said, Live, WasPassed, bringing, PassedOnOurs, Opening, Arrival, FairCall, Legal, NeverBlocked, Demand3}
 use Rattle.honest.proofs.Lists.{In}
-use Rattle.honest.proofs.Sends.{SentWith, sent-with, First, Later, Fact, first-facts, Protocol, answered-in, protocol-sent, protocol-delivered, protocol-called, protocol-passed}
+use Rattle.honest.proofs.Sends.{SentWith, sent-with, sending, First, Later, Fact, Protocol, answered-in, protocol-sent, protocol-delivered, protocol-called, protocol-passed}
 use Rattle.honest.proofs.Arrival.{Heard, quiet, passing, passed-renewed, opened-renewed}
 use Rattle.honest.proofs.Table.{OurEntry, OthersExpired, ours, AskOf, arrival-found, opening-made, pass-elsewhere, pass-on-ours, pass-clock}
 
@@ -43,14 +43,14 @@ module _ (M : Machine) (Sound : M .State → Type 0) (keeps : KeepsTo M Sound) (
     pub numbered : M .number place ≡ t .place
     pub ours : OurEntry P (M .view (t .state)) place c
     pub others : OthersExpired P (M .view (t .state)) place
-    pub holds : Holds c (t .passed)
-    pub heard : Heard P (t .passed)
+    pub holds : Holds c (t .history)
+    pub heard : Heard P (t .history)
     pub told-early : t .until ≤ c .deadline
 
   pub data Phase (t : Told M) : Type 0 where
-    before : t .opened ≡ false → t .passed ≡ [] → Phase t
-    dead : t .opened ≡ true → t .until ≤ t .passClock → Phase t
-    alive : t .opened ≡ true → (c : Connection) → Alive t c → Phase t
+    before : t .openingSeen ≡ false → t .history ≡ [] → Phase t
+    dead : t .openingSeen ≡ true → t .until ≤ t .passClock → Phase t
+    alive : t .openingSeen ≡ true → (c : Connection) → Alive t c → Phase t
 
   pub record Table-kept (t : Told M) : Type 0 where
     pub sound : Sound (t .state)
@@ -59,7 +59,7 @@ module _ (M : Machine) (Sound : M .State → Type 0) (keeps : KeepsTo M Sound) (
 
   pub record Inv (L : List (Event (M .Call))) : Type 0 where
     pub table : Table-kept (told M s₀ L)
-    pub protocol : Protocol P (told M s₀ L .passed) (λ k p. Arrived k p L) L
+    pub protocol : Protocol P (told M s₀ L .history) (λ k p. Arrived k p L) L
 
   -- What a call does to the table
 
@@ -95,9 +95,9 @@ module _ (M : Machine) (Sound : M .State → Type 0) (keeps : KeepsTo M Sound) (
     asked a is e = record {
       ask = a;
       read = is;
-      answer = sym (keeps .hasAnswer (t .state) q a (kept .sound) is) ∙ passed-0 e;
-      place = keeps .placed (t .state) q a (kept .sound) is;
-      table = keeps .left (t .state) q a (kept .sound) is;
+      answer = sym (keeps .answer-by-rows (t .state) q a (kept .sound) is) ∙ passed-0 e;
+      place = keeps .place-by-rows (t .state) q a (kept .sound) is;
+      table = keeps .view-by-rows (t .state) q a (kept .sound) is;
     }
 
     -- the header clock is the largest clock used at a pass
@@ -206,17 +206,17 @@ module _ (M : Machine) (Sound : M .State → Type 0) (keeps : KeepsTo M Sound) (
 
     module _ (p : LineSegment) (a : Ask) (read : M .reads q ≡ asks a) (brings : a .segment ≡ onWire p) (e : passes M t q ≡ true) where
       answer-0 : answerOf connections (filter connections v a) ≡ 0
-      answer-0 = sym (keeps .hasAnswer (t .state) q a (kept .sound) read) ∙ passed-0 e
+      answer-0 = sym (keeps .answer-by-rows (t .state) q a (kept .sound) read) ∙ passed-0 e
 
       -- what is told of the deadline is no later than the entry's
       told-before :
-          (place : ℕ) (c : Connection) → c .stage ≡ stageOf (p ∷ t .passed) →
+          (place : ℕ) (c : Connection) → c .stage ≡ stageOf (p ∷ t .history) →
           c .deadline ≡ used a + lifeOf (c .stage) →
           afterSegment M t q place p .until ≤ c .deadline
       told-before place c stage deadline =
           let given = ap clockIn read in
           let next : nextClock M t q ≡ max (clockIn (M .reads q)) (t .passClock) = if-true _ _ _ e in
-          let told-then : afterSegment M t q place p .until ≡ nextClock M t q + lifeOf (stageOf (p ∷ t .passed)) = if-true _ _ _ e in
+          let told-then : afterSegment M t q place p .until ≡ nextClock M t q + lifeOf (stageOf (p ∷ t .history)) = if-true _ _ _ e in
           let life = ap lifeOf stage in
           omega (arith, given, next, told-then, life, deadline, kept .clock)
 
@@ -224,11 +224,11 @@ module _ (M : Machine) (Sound : M .State → Type 0) (keeps : KeepsTo M Sound) (
       segment-kept :
           (place spot : ℕ) (c : Connection) → M .number spot ≡ place →
           OurEntry P (M .view (M .run (t .state) q .next)) spot c → OthersExpired P (M .view (M .run (t .state) q .next)) spot →
-          Holds c (p ∷ t .passed) → Heard P (p ∷ t .passed) →
+          Holds c (p ∷ t .history) → Heard P (p ∷ t .history) →
           c .deadline ≡ used a + lifeOf (c .stage) →
           Table-kept (afterSegment M t q place p)
       segment-kept place spot c numbered ours others holds heard deadline =
-          let more : (if passes M t q then p ∷ t .passed else t .passed) ≡ p ∷ t .passed = if-true _ _ _ e in
+          let more : (if passes M t q then p ∷ t .history else t .history) ≡ p ∷ t .history = if-true _ _ _ e in
           record {
             sound = keeps .sound-kept (t .state) q (kept .sound);
             clock = clock-after (asked a read e) e;
@@ -245,19 +245,19 @@ module _ (M : Machine) (Sound : M .State → Type 0) (keeps : KeepsTo M Sound) (
 
       -- the opening
       pub opening-kept :
-          AskOf P 0 a → p .from ≡ 0 → p .flags ≡ SYN → Formed p → p .start ≡ P .start 0 → t .passed ≡ [] →
+          AskOf P 0 a → p .from ≡ 0 → p .flags ≡ SYN → Formed p → p .start ≡ P .start 0 → t .history ≡ [] →
           rows.search connections v (used a) (a .side) (a .key) ≡ Nothing →
           Table-kept (afterSegment M t q (M .run (t .state) q .place) p)
       opening-kept asked-0 opener a-syn formed begins none unfound =
           let made = opening-made P known v sound-before a asked-0 unfound answer-0 in
           let c : Connection = opened (P .side) (a .segment) (used a) in
           let renewed = opened-renewed (P .side) (a .segment) (used a) in
-          let holds : Holds (opened (P .side) (a .segment) (used a)) (p ∷ t .passed) =
+          let holds : Holds (opened (P .side) (a .segment) (used a)) (p ∷ t .history) =
           rw (brings, none) (opened-holds p opener a-syn formed (P .side) (used a)) in
           let end = ap (λ (n : Numbers). n .end) (opener-begins p opener a-syn formed) in
-          let heard : Heard P (p ∷ t .passed) = rw none (quiet (opened-unanswered p opener a-syn formed) (omega (arith, end, begins))) in
-          let place = keeps .placed (t .state) q a (kept .sound) read ∙ ap (placeBy (M .number)) (made .is) in
-          let table = keeps .left (t .state) q a (kept .sound) read ∙ ap (after connections v) (made .is) in
+          let heard : Heard P (p ∷ t .history) = rw none (quiet (opened-unanswered p opener a-syn formed) (omega (arith, end, begins))) in
+          let place = keeps .place-by-rows (t .state) q a (kept .sound) read ∙ ap (placeBy (M .number)) (made .is) in
+          let table = keeps .view-by-rows (t .state) q a (kept .sound) read ∙ ap (after connections v) (made .is) in
           segment-kept (M .run (t .state) q .place) (made .place) c (sym place) (rw table (made .ours)) (rw table (made .others))
           holds heard (renewed .0)
 
@@ -283,22 +283,22 @@ module _ (M : Machine) (Sound : M .State → Type 0) (keeps : KeepsTo M Sound) (
           ∙ ap (Passes (al .place) now) ((λ n. entryAfter connections (ours P c) (sender n) (brings n) now) ∙ if-=-not _ _ (in-use-stage _ in-use))
 
       answer-is-0 : M .run (t .state) q .answer ≡ 0
-      answer-is-0 = keeps .hasAnswer (t .state) q a (kept .sound) read ∙ ap (answerOf connections) filter-passes
+      answer-is-0 = keeps .answer-by-rows (t .state) q a (kept .sound) read ∙ ap (answerOf connections) filter-passes
 
       place-is-ours : M .run (t .state) q .place ≡ t .place
-      place-is-ours = keeps .placed (t .state) q a (kept .sound) read ∙ ap (placeBy (M .number)) filter-passes ∙ al .numbered
+      place-is-ours = keeps .place-by-rows (t .state) q a (kept .sound) read ∙ ap (placeBy (M .number)) filter-passes ∙ al .numbered
 
       arrival-passes : passes M t q ≡ true
       unfolding passes
       arrival-passes = eq-eqb _ _ answer-is-0
 
       arrival-kept :
-          ((now : ℕ) → Holds (passed c (p .from) (onWire p) now) (p ∷ t .passed)) → Heard P (p ∷ t .passed) →
+          ((now : ℕ) → Holds (passed c (p .from) (onWire p) now) (p ∷ t .history)) → Heard P (p ∷ t .history) →
           Table-kept (afterSegment M t q (t .place) p)
       arrival-kept holds-after heard-after =
           let c' : Connection = passed c (p .from) (onWire p) (used a) in
           let renewed = passed-renewed c (p .from) (onWire p) (used a) no-reset in
-          let table = keeps .left (t .state) q a (kept .sound) read ∙ ap (after connections v) filter-passes in
+          let table = keeps .view-by-rows (t .state) q a (kept .sound) read ∙ ap (after connections v) filter-passes in
           let side = renewed .side ∙ al .ours .our-side in
           let r = pass-on-ours P known v sound-before (al .place) c c' (used a) (al .ours) (al .others) (omega arith) side in
           segment-kept p a read brings arrival-passes (t .place) (al .place) c' (al .numbered) (rw table (r .0)) (rw table (r .1))
@@ -312,14 +312,14 @@ module _ (M : Machine) (Sound : M .State → Type 0) (keeps : KeepsTo M Sound) (
   in-more p g h false one = ⊎-elim (λ (new : (p ≡ g) × (false ≡ true)). false-true (new .1)) (λ (old : In p h). old) one
 
   -- what has passed is in the history
-  passed-in : (k : ℕ) (p : LineSegment) (L : List (Event (M .Call))) → WasPassed M s₀ k p L → In p (told M s₀ L .passed)
+  passed-in : (k : ℕ) (p : LineSegment) (L : List (Event (M .Call))) → WasPassed M s₀ k p L → In p (told M s₀ L .history)
   unfolding told afterCall
   passed-in k p [] none = absurd none
   passed-in k p (send g ∷ L) was = passed-in k p L was
   passed-in k p (call q (opening j g) ∷ L) was =
-      in-more p g (told M s₀ L .passed) (passes M (told M s₀ L) q) (⊎-elim (λ new. inl (new .0 .1, new .1)) (λ old. inr (passed-in k p L old)) was)
+      in-more p g (told M s₀ L .history) (passes M (told M s₀ L) q) (⊎-elim (λ new. inl (new .0 .1, new .1)) (λ old. inr (passed-in k p L old)) was)
   passed-in k p (call q (arrival j g) ∷ L) was =
-      in-more p g (told M s₀ L .passed) (passes M (told M s₀ L) q) (⊎-elim (λ new. inl (new .0 .1, new .1)) (λ old. inr (passed-in k p L old)) was)
+      in-more p g (told M s₀ L .history) (passes M (told M s₀ L) q) (⊎-elim (λ new. inl (new .0 .1, new .1)) (λ old. inr (passed-in k p L old)) was)
   passed-in k p (call q other ∷ L) was = ⊎-elim (λ never. absurd (never .0)) (λ old. passed-in k p L old) was
   passed-in k p (delivery j g ∷ L) was = passed-in k p L was
 
@@ -336,24 +336,24 @@ module _ (M : Machine) (Sound : M .State → Type 0) (keeps : KeepsTo M Sound) (
     };
   }
 
-  after-send : (p : LineSegment) (L : List (Event (M .Call))) → Inv L → p .from < 2 → Formed p → Honest P p L → Inv (send p ∷ L)
+  after-send : (p : LineSegment) (L : List (Event (M .Call))) → Inv L → Honest P p L → Inv (send p ∷ L)
   unfolding told
-  after-send p L inv end-known formed honest = record {
+  after-send p L inv honest = record {
     table = inv .table;
-    protocol = protocol-sent P (told M s₀ L .passed) (λ k g. Arrived k g L) L (inv .protocol) p end-known formed honest;
+    protocol = protocol-sent P (told M s₀ L .history) (λ k g. Arrived k g L) L (inv .protocol) p (honest .formed) (sending P p L (honest .allowed));
   }
 
   after-delivery : (k : ℕ) (p : LineSegment) (L : List (Event (M .Call))) → Inv L → WasPassed M s₀ k p L → Inv (delivery k p ∷ L)
   unfolding told
   after-delivery k p L inv was = record {
     table = inv .table;
-    protocol = protocol-delivered P (told M s₀ L .passed) (λ j g. Arrived j g L) L k p (inv .protocol) (passed-in k p L was);
+    protocol = protocol-delivered P (told M s₀ L .history) (λ j g. Arrived j g L) L k p (inv .protocol) (passed-in k p L was);
   }
 
   after-other : (q : M .Call) (L : List (Event (M .Call))) → Inv L → FairCall M s₀ P other q L → Inv (call q other ∷ L)
   unfolding told afterCall
   after-other q L inv fair =
-      let pr = protocol-called P (told M s₀ L .passed) (λ j g. Arrived j g L) L (inv .protocol) q other in
+      let pr = protocol-called P (told M s₀ L .history) (λ j g. Arrived j g L) L (inv .protocol) q other in
       record {
         table = other-kept (told M s₀ L) (inv .table) q fair;
         protocol = record {
@@ -369,11 +369,11 @@ module _ (M : Machine) (Sound : M .State → Type 0) (keeps : KeepsTo M Sound) (
   protocol-after :
       (q : M .Call) (l : Label) (k : ℕ) (p : LineSegment) (L : List (Event (M .Call))) → Inv L → Sent k p L →
       passes M (told M s₀ L) q ≡ true → (place : ℕ) →
-      Protocol P (afterSegment M (told M s₀ L) q place p .passed) (λ j g. ((j ≡ k) × (g ≡ p)) ⊎ Arrived j g L) (call q l ∷ L)
+      Protocol P (afterSegment M (told M s₀ L) q place p .history) (λ j g. ((j ≡ k) × (g ≡ p)) ⊎ Arrived j g L) (call q l ∷ L)
   protocol-after q l k p L inv sent e place =
       let with-s = sent-with k p L sent in
-      rw (if-true (passes M (told M s₀ L) q) (p ∷ told M s₀ L .passed) (told M s₀ L .passed) e)
-      (protocol-passed P (told M s₀ L .passed) (λ j g. Arrived j g L) L (inv .protocol) q l k p (with-s .0) (with-s .1))
+      rw (if-true (passes M (told M s₀ L) q) (p ∷ told M s₀ L .history) (told M s₀ L .history) e)
+      (protocol-passed P (told M s₀ L .history) (λ j g. Arrived j g L) L (inv .protocol) q l k p (with-s .0) (with-s .1))
 
   after-opening :
       (q : M .Call) (k : ℕ) (p : LineSegment) (L : List (Event (M .Call))) → Inv L → Opening M s₀ P k p q L →
@@ -387,11 +387,11 @@ module _ (M : Machine) (Sound : M .State → Type 0) (keeps : KeepsTo M Sound) (
       w : (s : ℕ) × SentWith k p s L
       w = sent-with k p L (o .arrives .sent)
 
-      f : Fact P (told M s₀ L .passed) p (w .0) L
+      f : Fact P (told M s₀ L .history) p (w .0) L
       f = inv .protocol .facts k p (w .0) (w .1)
 
       -- nothing has passed, so nothing was received, and what is sent is a SYN
-      is-first : told M s₀ L .passed ≡ [] → First P p (w .0)
+      is-first : told M s₀ L .history ≡ [] → First P p (w .0)
       is-first none =
           ⊎-elim (λ (x : First P p (w .0)). x)
           (λ (y : Later p (w .0) L).
@@ -404,10 +404,9 @@ module _ (M : Machine) (Sound : M .State → Type 0) (keeps : KeepsTo M Sound) (
       by-phase (alive opened-t c al) = false-true (sym (o .first-one) ∙ opened-t)
       by-phase (before closed none) =
           let x = is-first none in
-          let ff = first-facts P p (f .formed) (x .rule) in
           opening-kept (told M s₀ L) (inv .table) q p _ (o .arrives .brings) refl (o .answered-0)
-          record { end = omega arith; side = ap (sideOf P) (o .opener); key = ap (keyOf P) (o .opener) }
-          (o .opener) (ff .opener (o .opener)) (f .formed) (x .rule .start ∙ ap (P .start) (o .opener)) none (o .finds-none _ (o .arrives .brings))
+          record { end = omega arith; side = ap (sideOf P) (o .by-opener); key = ap (keyOf P) (o .by-opener) }
+          (o .by-opener) (o .is-syn) (f .formed) (x .rule .start ∙ ap (P .start) (o .by-opener)) none (o .finds-none)
 
   after-arrival :
       (q : M .Call) (k : ℕ) (p : LineSegment) (L : List (Event (M .Call))) → Inv L → Arrival M s₀ P k p q L →
@@ -424,9 +423,9 @@ module _ (M : Machine) (Sound : M .State → Type 0) (keeps : KeepsTo M Sound) (
           let w = sent-with k p L (r .arrives .sent) in
           let f = inv .protocol .facts k p (w .0) (w .1) in
           let x =
-          passing P (told M s₀ L .passed) (λ j g. Arrived j g L) L (inv .protocol) c (al .holds) k p (w .0) (w .1)
+          passing P (told M s₀ L .history) (λ j g. Arrived j g L) L (inv .protocol) c (al .holds) k p (w .0) (w .1)
           (r .in-order) (al .heard) in
-          let a : Ask = record { side = sideOf P (p .from); clock = r .arrives .clock; key = keyOf P (p .from); segment = onWire p } in
+          let a : Ask = bringing M P p (r .arrives .clock) in
           let asked-p : AskOf P (p .from) a = record { end = f .end-known; side = refl; key = refl } in (
             answer-is-0 (told M s₀ L) (inv .table) q p _ (r .arrives .brings) refl asked-p (f .no-reset) c al (r .live) (x .verdict),
             place-is-ours (told M s₀ L) (inv .table) q p _ (r .arrives .brings) refl asked-p (f .no-reset) c al (r .live) (x .verdict),
@@ -444,7 +443,7 @@ module _ (M : Machine) (Sound : M .State → Type 0) (keeps : KeepsTo M Sound) (
   kept-along : Sound s₀ → (L : List (Event (M .Call))) → Legal M s₀ P L → Inv L × NeverBlocked M s₀ L
   kept-along sound [] legal = (start sound, tt)
   kept-along sound (send p ∷ L) legal =
-      let r = kept-along sound L (legal .1) in (after-send p L (r .0) (legal .0 .0) (legal .0 .1) (legal .0 .2), r .1)
+      let r = kept-along sound L (legal .1) in (after-send p L (r .0) (legal .0), r .1)
   kept-along sound (call q (opening k p) ∷ L) legal =
       let r = kept-along sound L (legal .1) in (after-opening q k p L (r .0) (legal .0), r .1)
   kept-along sound (call q (arrival k p) ∷ L) legal =

@@ -23,9 +23,9 @@ module _ (number : ℕ → ℕ) where
     refusal-placed = λ t q n sound is. false-true cc;
     refusal-blocks = λ q n is. false-true cc;
     well-formed = λ q a is. let same : q .0 ≡ a = cc in rw same at (q .2);
-    answered = λ t q a sound is. let same : q .0 ≡ a = cc in rw same;
-    placed = λ t q a sound is. let same : q .0 ≡ a = cc in rw same;
-    left = λ t q a sound is. let same : q .0 ≡ a = cc in rw same;
+    answer-by-rows = λ t q a sound is. let same : q .0 ≡ a = cc in rw same;
+    place-by-rows = λ t q a sound is. let same : q .0 ≡ a = cc in rw same;
+    view-by-rows = λ t q a sound is. let same : q .0 ≡ a = cc in rw same;
     blocked-keeps = λ t q refused. refusal-keeps connections t (filter connections t (q .0)) refused;
     apart-keeps = λ t q sound is. false-true cc;
     sound-view = λ t sound. sound .0;

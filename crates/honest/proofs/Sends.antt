@@ -13,7 +13,7 @@ use Rattle.choice.proofs.Choice.{if-true, if-false, if-either, if-=, if-=-not}
 use Rattle.choice.proofs.Tests.{false-true}
 use Rattle.segment.specs.Flags.{syn, rst, ack, SYN, SYN+ACK}
 use Rattle.history.specs.History.{LineSegment, numbersOf, Formed}
-use Rattle.honest.specs.Rules.{Label, Event, send, call, delivery, Pair, sentBy, Sent, receivedBy, highest, some, ackOf, edgeOf, endOf, hasAnswer, FirstSegment, LaterSegment, Honest, first, later}
+use Rattle.honest.specs.Rules.{Label, Event, send, call, delivery, Pair, sentBy, Sent, receivedBy, highest, some, ackOf, edgeOf, endOf, hasAnswer, OpenersSyn, AnswerersSynAck, LaterSegment, Allowed, openers-syn, answerers-syn-ack, later}
 use Rattle.honest.proofs.Lists.{In, highest-up, highest-lub, some-in, in-some, endBy-mine, windowBy-mine, edgeBy-theirs, numbers-up, win-some}
 
 -- Sendings with their snapshots
@@ -59,6 +59,43 @@ module _ {Call : Type 0} where
       kept false r = rw (if-false false (g ∷ sentBy (p .from) L) (sentBy (p .from) L) refl) r
   sent-in k p s (call q l ∷ L) sent = sent-in k p s L sent
   sent-in k p s (delivery j g ∷ L) sent = sent-in k p s L sent
+
+-- none after the k-th of end i has arrived
+abbrev pub NoneLater : (HasArrived : ℕ → LineSegment → Type 0) (i k : ℕ) → Type 0
+NoneLater HasArrived i k = (j : ℕ) (g : LineSegment) → HasArrived j g → g .from ≡ i → j ≤ k
+
+-- an end's first segment, the opener's SYN or the answerer's SYN+ACK
+pub record FirstSegment (P : Pair) (p : LineSegment) : Type 0 where
+  pub flags : p .flags ≡ (if p .from =ᵇ 0 then SYN else SYN+ACK)
+  pub start : p .start ≡ P .start (p .from)
+  pub acks : p .from ≡ 1 → p .acked ≡ P .start 0 + 1
+
+module _ {Call : Type 0} (P : Pair) (p : LineSegment) (L : List (Event Call)) where
+  -- what an end sends, by whether it has an answer
+  pub data Sending : Type 0 where
+    first : p .from < 2 → FirstSegment P p → hasAnswer (p .from) L ≡ false → Sending
+    after : LaterSegment P p L → Sending
+
+  pub sending : Allowed P p L → Sending
+  sending (openers-syn r) =
+      let end = r .by-opener in
+      first (omega arith)
+      record {
+        flags = r .flags ∙ sym (if-= {a = p .from} {b = 0} SYN SYN+ACK end);
+        start = r .start ∙ ap (P .start) (sym end);
+        acks = λ answerer. absurd (omega arith);
+      }
+      (subst (λ (i : ℕ). hasAnswer i L ≡ false) (sym end) (r .until-answer))
+  sending (answerers-syn-ack r) =
+      let end = r .by-answerer in
+      first (omega arith)
+      record {
+        flags = r .flags ∙ sym (if-=-not {a = p .from} {b = 0} SYN SYN+ACK (λ (e : p .from ≡ 0). omega arith));
+        start = r .start ∙ ap (P .start) (sym end);
+        acks = λ answerer. r .acks-syn;
+      }
+      (subst (λ (i : ℕ). hasAnswer i L ≡ false) (sym end) (r .until-answer))
+  sending (later r) = after r
 
 -- the acknowledgement of a segment of end j
 abbrev pub ackFrom : ℕ → LineSegment → ℕ
@@ -303,9 +340,9 @@ module _ {Call : Type 0} (P : Pair) where
 
   module _
       (h : List LineSegment) (Arrived : ℕ → LineSegment → Type 0) (L : List (Event Call)) (inv : Protocol h Arrived L)
-      (p : LineSegment) (known : p .from < 2) (formed : Formed p) where
-    pub fact-first : FirstSegment P p → Fact h p (snapshot p L) L
-    fact-first rule =
+      (p : LineSegment) (formed : Formed p) where
+    pub fact-first : p .from < 2 → FirstSegment P p → Fact h p (snapshot p L) L
+    fact-first known rule =
         let f = first-facts P p formed rule in
         let own : snapshot p L ≡ p .start = if-= _ _ (f .a-syn) in
         let acked : ack (p .flags) ≡ 1 → p .acked ≡ P .start (1 - p .from) + 1 = λ (acks : ack (p .flags) ≡ 1).
@@ -323,14 +360,15 @@ module _ {Call : Type 0} (P : Pair) where
           snapshot-passed = omega (arith, own, rule .start);
         }
 
-    pub fact-later : LaterSegment P p L → hasAnswer (p .from) L ≡ true → Fact h p (snapshot p L) L
-    fact-later rule answered-now =
+    pub fact-later : LaterSegment P p L → Fact h p (snapshot p L) L
+    fact-later rule =
+        let known = rule .by-either in
         let heard : snapshot p L ≡ highest ackOf (receivedBy (p .from) L) = if-=-not _ _ (λ (e : syn (p .flags) ≡ 1). omega (arith, rule .no-syn)) in
         record {
           end-known = known;
           formed = formed;
           no-reset = λ r. omega (arith, rule .no-reset);
-          kind = inr record { has-ack = rule .has-ack; no-syn = rule .no-syn; answered-now = answered-now; heard = omega (arith, heard) };
+          kind = inr record { has-ack = rule .has-ack; no-syn = rule .no-syn; answered-now = rule .after-answer; heard = omega (arith, heard) };
           snapshot-low = omega (arith, heard, rule .starts);
           acks-syn = λ acks. rule .acks-syn;
           below-edge = omega (arith, rule .ends, heard-edges h Arrived L inv (p .from) known);
@@ -339,15 +377,15 @@ module _ {Call : Type 0} (P : Pair) where
           snapshot-passed = omega (arith, heard, heard-acks h Arrived L inv (p .from) known);
         }
 
-    pub fact-sent : Honest P p L → Fact h p (snapshot p L) L
-    fact-sent (first rule unanswered heard-syn) = fact-first rule
-    fact-sent (later rule answered-now) = fact-later rule answered-now
+    pub fact-sent : Sending P p L → Fact h p (snapshot p L) L
+    fact-sent (first known rule unanswered) = fact-first known rule
+    fact-sent (after rule) = fact-later rule
 
     -- an earlier sending of the same end has no higher snapshot and no higher acknowledgement
     earlier :
-        Honest P p L → (k : ℕ) (g : LineSegment) (s : ℕ) → SentWith k g s L → g .from ≡ p .from →
+        Sending P p L → (k : ℕ) (g : LineSegment) (s : ℕ) → SentWith k g s L → g .from ≡ p .from →
         (s ≤ snapshot p L) × (ack (g .flags) ≡ 1 → ack (p .flags) ≡ 1 → g .acked ≤ p .acked)
-    earlier (first rule unanswered heard-syn) k g s sent same =
+    earlier (first known rule unanswered) k g s sent same =
         let f = first-facts P p formed rule in
         let own : snapshot p L ≡ p .start = if-= _ _ (f .a-syn) in
         ⊎-elim
@@ -361,7 +399,7 @@ module _ {Call : Type 0} (P : Pair) where
         ))
         (λ (b : Later g s L). false-true (sym unanswered ∙ subst (λ (i : ℕ). hasAnswer i L ≡ true) same (b .answered-now)))
         (inv .facts k g s sent .kind)
-    earlier (later rule answered-now) k g s sent same =
+    earlier (after rule) k g s sent same =
         let heard : snapshot p L ≡ highest ackOf (receivedBy (p .from) L) = if-=-not _ _ (λ (e : syn (p .flags) ≡ 1). omega (arith, rule .no-syn)) in
         let before : ack (g .flags) ≡ 1 → ack (p .flags) ≡ 1 → g .acked ≤ p .acked = λ (acks : ack (g .flags) ≡ 1) (acks' : ack (p .flags) ≡ 1).
         let own : ackOf g ≡ g .acked = if-= _ _ acks in
@@ -370,13 +408,13 @@ module _ {Call : Type 0} (P : Pair) where
         ⊎-elim
         (λ (a : First P g s).
         let begins : P .start (g .from) ≡ P .start (p .from) = ap (P .start) same in
-        (omega (arith, heard, a .own-start, a .rule .start, answered-heard h Arrived L inv (p .from) known answered-now), before))
+        (omega (arith, heard, a .own-start, a .rule .start, answered-heard h Arrived L inv (p .from) (rule .by-either) (rule .after-answer)), before))
         (λ (b : Later g s L). (omega (arith, heard, subst (λ (i : ℕ). s ≤ highest ackOf (receivedBy i L)) same (b .heard)), before))
         (inv .facts k g s sent .kind)
 
     -- the sendings with one more
     order-sent :
-        Honest P p L → (k : ℕ) (g : LineSegment) (s k' : ℕ) (g' : LineSegment) (s' : ℕ) → SentWith k g s (send p ∷ L) →
+        Sending P p L → (k : ℕ) (g : LineSegment) (s k' : ℕ) (g' : LineSegment) (s' : ℕ) → SentWith k g s (send p ∷ L) →
         SentWith k' g' s' (send p ∷ L) → g .from ≡ g' .from → k ≤ k' →
         (s ≤ s') × (ack (g .flags) ≡ 1 → ack (g' .flags) ≡ 1 → g .acked ≤ g' .acked)
     order-sent honest k g s k' g' s' sent sent' same in-order =
@@ -413,7 +451,7 @@ module _ {Call : Type 0} (P : Pair) where
             ap (λ (i : ℕ). length (sentBy i L)) (sym same ∙ ap (λ (f : LineSegment). f .from) (now .0)) in
             omega (arith, now .1)
 
-    pub protocol-sent : Honest P p L → Protocol h Arrived (send p ∷ L)
+    pub protocol-sent : Sending P p L → Protocol h Arrived (send p ∷ L)
     unfolding receivedBy
     protocol-sent honest = record {
       facts = λ k g s sent. ⊎-elim

@@ -14,7 +14,7 @@ use Rattle.rows.specs.Rows.{View}
 use Rattle.rows.specs.Connections.{connections}
 use Rattle.history.specs.History.{LineSegment, stageOf}
 use Rattle.honest.specs.Machine.{refused, asks, Machine, clockIn, KeepsTo}
-use Rattle.honest.specs.Rules.{Label, opening, arrival, other, Event, send, call, delivery, Pair, sentBy, Sent, Arrived, receivedBy, hasAnswer, Honest, first, later}
+use Rattle.honest.specs.Rules.{Label, opening, arrival, other, Event, send, call, delivery, Pair, sentBy, Sent, Arrived, receivedBy, hasAnswer, Allowed, openers-syn, answerers-syn-ack, later}
 use Rattle.honest.specs.Honest.{Told, passes, nextClock, afterSegment, afterCall, told, said, WasPassed, Arrives, FairCall, Legal}
 use Rattle.honest.specs.Instance.{ViewCall, viewMachine}
 use Rattle.honest.specs.Carries.{Carries, none, sent, called, refused-alone, delivered, LegalCarried, withCall, withOther, readings, ifAsked, otherAnswers, summaryOf, SummaryCarried}
@@ -63,21 +63,31 @@ module _ (M : Machine) where
   unfolding hasAnswer
   answered-same i c = rw (receivedBy-same 0 c, receivedBy-same 1 c)
 
-  honest-carried : (P : Pair) (p : LineSegment) {L : Carrying} {N : Carried} → Carries M L N → Honest P p N → Honest P p L
-  honest-carried P p c (first rule not-yet syn-received) =
-      first rule (answered-same (p .from) c ∙ not-yet) (λ answerer. rw (receivedBy-same 1 c) (syn-received answerer))
-  honest-carried P p c (later rule now) =
-      later record {
-        has-ack = rule .has-ack;
-        no-syn = rule .no-syn;
-        no-reset = rule .no-reset;
-        starts = rw (receivedBy-same (p .from) c) (rule .starts);
-        ends = rw (receivedBy-same (p .from) c) (rule .ends);
-        acks-syn = rule .acks-syn;
-        acks-received = rw (receivedBy-same (p .from) c) (rule .acks-received);
-        acks-rise = rw (sentBy-same (p .from) c) (rule .acks-rise);
+  allowed-carried : (P : Pair) (p : LineSegment) {L : Carrying} {N : Carried} → Carries M L N → Allowed P p N → Allowed P p L
+  allowed-carried P p c (openers-syn r) =
+      openers-syn record { by-opener = r .by-opener; flags = r .flags; start = r .start; until-answer = answered-same 0 c ∙ r .until-answer }
+  allowed-carried P p c (answerers-syn-ack r) =
+      answerers-syn-ack record {
+        by-answerer = r .by-answerer;
+        has-syn = rw (receivedBy-same 1 c) (r .has-syn);
+        flags = r .flags;
+        start = r .start;
+        acks-syn = r .acks-syn;
+        until-answer = answered-same 1 c ∙ r .until-answer;
       }
-      (answered-same (p .from) c ∙ now)
+  allowed-carried P p c (later r) =
+      later record {
+        by-either = r .by-either;
+        after-answer = answered-same (p .from) c ∙ r .after-answer;
+        has-ack = r .has-ack;
+        no-syn = r .no-syn;
+        starts = rw (receivedBy-same (p .from) c) (r .starts);
+        ends = rw (receivedBy-same (p .from) c) (r .ends);
+        acks-syn = r .acks-syn;
+        acks-received = rw (receivedBy-same (p .from) c) (r .acks-received);
+        acks-rise = rw (sentBy-same (p .from) c) (r .acks-rise);
+        no-reset = r .no-reset;
+      }
 
   -- a list with each call made from the rows', where all are read as what they were made from
   pub made-carries :
@@ -113,9 +123,9 @@ module _ (M : Machine) (Sound : M .State → Type 0) (keeps : KeepsTo M Sound) (
   abbrev viewed : Told M → Told F
   viewed t = record {
     state = M .view (t .state);
-    opened = t .opened;
+    openingSeen = t .openingSeen;
     place = t .place;
-    passed = t .passed;
+    history = t .history;
     passClock = t .passClock;
     until = t .until;
   }
@@ -123,30 +133,30 @@ module _ (M : Machine) (Sound : M .State → Type 0) (keeps : KeepsTo M Sound) (
   module _ (t : Told M) (kept : Sound (t .state)) (q : M .Call) (b : ViewCall) (is : M .reads q ≡ asks (b .0)) where
     same-pass : passes F (viewed t) b ≡ passes M t q
     unfolding passes
-    same-pass = ap (λ (n : ℕ). n =ᵇ 0) (sym (keeps .hasAnswer (t .state) q (b .0) kept is))
+    same-pass = ap (λ (n : ℕ). n =ᵇ 0) (sym (keeps .answer-by-rows (t .state) q (b .0) kept is))
 
     same-clock : nextClock F (viewed t) b ≡ nextClock M t q
     same-clock = λ i. if same-pass i then max (clockIn (sym is i)) (t .passClock) else t .passClock
 
     same-segment : (x y : ℕ) (p : LineSegment) → y ≡ x → afterSegment F (viewed t) b x p ≡ viewed (afterSegment M t q y p)
     same-segment x y p e = λ i. record {
-      state = sym (keeps .left (t .state) q (b .0) kept is) i;
-      opened = true;
+      state = sym (keeps .view-by-rows (t .state) q (b .0) kept is) i;
+      openingSeen = true;
       place = sym e i;
-      passed = if same-pass i then p ∷ t .passed else t .passed;
+      history = if same-pass i then p ∷ t .history else t .history;
       passClock = same-clock i;
-      until = if same-pass i then same-clock i + lifeOf (stageOf (p ∷ t .passed)) else t .until;
+      until = if same-pass i then same-clock i + lifeOf (stageOf (p ∷ t .history)) else t .until;
     }
 
     same-after : (l : Label) → afterCall F (viewed t) b l ≡ viewed (afterCall M t q l)
     unfolding afterCall
-    same-after (opening k p) = same-segment _ _ p (keeps .placed (t .state) q (b .0) kept is)
+    same-after (opening k p) = same-segment _ _ p (keeps .place-by-rows (t .state) q (b .0) kept is)
     same-after (arrival k p) = same-segment _ _ p refl
     same-after other = λ i. record {
-      state = sym (keeps .left (t .state) q (b .0) kept is) i;
-      opened = t .opened;
+      state = sym (keeps .view-by-rows (t .state) q (b .0) kept is) i;
+      openingSeen = t .openingSeen;
       place = t .place;
-      passed = t .passed;
+      history = t .history;
       passClock = same-clock i;
       until = t .until;
     }
@@ -164,9 +174,9 @@ module _ (M : Machine) (Sound : M .State → Type 0) (keeps : KeepsTo M Sound) (
     unfolding afterCall if_then_else_
     refused-tells-nothing = λ i. record {
       state = sym (keeps .blocked-keeps (t .state) q refused-not-0) i;
-      opened = t .opened;
+      openingSeen = t .openingSeen;
       place = t .place;
-      passed = t .passed;
+      history = t .history;
       passClock = if sym refused-no-pass i then max (clockIn (M .reads q)) (t .passClock) else t .passClock;
       until = t .until;
     }
@@ -200,8 +210,8 @@ module _ (M : Machine) (Sound : M .State → Type 0) (keeps : KeepsTo M Sound) (
     view-same : M .view (told M s₀ L .state) ≡ told F t₀ N .state
     view-same = ap (λ (t : Told F). t .state) (sym (told-same c))
 
-    opened-same : told M s₀ L .opened ≡ told F t₀ N .opened
-    opened-same = ap (λ (t : Told F). t .opened) (sym (told-same c))
+    opened-same : told M s₀ L .openingSeen ≡ told F t₀ N .openingSeen
+    opened-same = ap (λ (t : Told F). t .openingSeen) (sym (told-same c))
 
     place-same : told M s₀ L .place ≡ told F t₀ N .place
     place-same = ap (λ (t : Told F). t .place) (sym (told-same c))
@@ -214,10 +224,10 @@ module _ (M : Machine) (Sound : M .State → Type 0) (keeps : KeepsTo M Sound) (
 
     module _ (q : M .Call) (b : ViewCall) (is : M .reads q ≡ asks (b .0)) where
       said-answer-same : said M s₀ L q .answer ≡ said F t₀ N b .answer
-      said-answer-same = keeps .hasAnswer _ q (b .0) (told-sound c) is ∙ ap (λ (t : View connections). F .run t b .answer) view-same
+      said-answer-same = keeps .answer-by-rows _ q (b .0) (told-sound c) is ∙ ap (λ (t : View connections). F .run t b .answer) view-same
 
       said-place-same : said M s₀ L q .place ≡ said F t₀ N b .place
-      said-place-same = keeps .placed _ q (b .0) (told-sound c) is ∙ ap (λ (t : View connections). F .run t b .place) view-same
+      said-place-same = keeps .place-by-rows _ q (b .0) (told-sound c) is ∙ ap (λ (t : View connections). F .run t b .place) view-same
 
       passes-same : passes M (told M s₀ L) q ≡ passes F (told F t₀ N) b
       unfolding passes
@@ -230,11 +240,13 @@ module _ (M : Machine) (Sound : M .State → Type 0) (keeps : KeepsTo M Sound) (
       arrives-carried P k p a = record { sent = sent-carried M k p c (a .sent); clock = a .clock; brings = is ∙ a .brings }
 
       fair-call-carried : (P : Pair) (l : Label) → FairCall F t₀ P l b N → FairCall M s₀ P l q L
+      unfolding arrives-carried
       fair-call-carried P (opening k p) o = record {
         first-one = opened-same ∙ o .first-one;
         arrives = arrives-carried P k p (o .arrives);
-        opener = o .opener;
-        finds-none = λ a asked. rw view-same (o .finds-none a (sym is ∙ asked));
+        by-opener = o .by-opener;
+        is-syn = o .is-syn;
+        finds-none = rw view-same (o .finds-none);
         answered-0 = passes-same ∙ o .answered-0;
       }
       fair-call-carried P (arrival k p) r = record {
@@ -263,7 +275,7 @@ module _ (M : Machine) (Sound : M .State → Type 0) (keeps : KeepsTo M Sound) (
 
   legal-along : (P : Pair) {L : Carrying M} {N : Carried M} → Carries M L N → Legal F t₀ P N → Legal M s₀ P L
   legal-along P none legal = tt
-  legal-along P (sent {p = p} c) legal = ((legal .0 .0, legal .0 .1, honest-carried M P p c (legal .0 .2)), legal-along P c (legal .1))
+  legal-along P (sent {p = p} c) legal = (record { allowed = allowed-carried M P p c (legal .0 .allowed); formed = legal .0 .formed }, legal-along P c (legal .1))
   legal-along P (called {q = q} {b = b} {l = l} is c) legal = (fair-call-carried c q b is P l (legal .0), legal-along P c (legal .1))
   legal-along P (refused-alone {q = q} {n = n} is c) legal =
       (λ on-ours. false-true (sym (refused-no-pass _ (told-sound c) q n is) ∙ on-ours .answered-0), legal-along P c legal)
@@ -279,7 +291,7 @@ module _ (M : Machine) (Sound : M .State → Type 0) (keeps : KeepsTo M Sound) (
   others-same (delivered c) = others-same c
 
   summary-along : {L : Carrying M} {N : Carried M} → Carries M L N → summaryOf M s₀ L ≡ summaryOf F t₀ N
-  summary-along c = λ i. record { others = reverse (others-same c i); place = place-same c i; stage = stageOf (sym (told-same c) i .passed) }
+  summary-along c = λ i. record { others = reverse (others-same c i); place = place-same c i; stage = stageOf (sym (told-same c) i .history) }
 
 pub legal-carried : (M : Machine) (Sound : M .State → Type 0) → KeepsTo M Sound → LegalCarried M Sound
 legal-carried M Sound keeps s₀ sound P L N carries legal = legal-along M Sound keeps s₀ sound P carries legal

@@ -76,7 +76,7 @@ module _ (M : Machine) (s₀ : M .State) where
 
   -- by what the calls tell
   abbrev pub summaryOf : List (Event (M .Call)) → Summary
-  summaryOf L = record { others = reverse (otherAnswers L); place = told M s₀ L .place; stage = stageOf (told M s₀ L .passed) }
+  summaryOf L = record { others = reverse (otherAnswers L); place = told M s₀ L .place; stage = stageOf (told M s₀ L .history) }
 
 -- The claims: of a machine, from every sound state, for every list that carries another
 

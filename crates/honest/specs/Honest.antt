@@ -1,18 +1,19 @@
--- Demand 3 (document 01, "Honest ends"): one claim about a list of events, newest first.
+-- Demand 3 (document 01, "Honest ends"): "a single claim about the list of events and not one for each call". Lists are newest first. In
+-- document 01's order, with its sentences above what states them.
 use Prim.Native.Nat.{ℕ, _+_, _≤_, _<_, max}
 use mathlib.Core.Path.{_≡_}
 use mathlib.Core.Logic.{_⊎_}
 use mathlib.Core.Bool.{Bool, true, false}
 use mathlib.Core.List.{List, [], _∷_}
 use Rattle.choice.specs.Choice.{if_then_else_, _=ᵇ_}
+use Rattle.segment.specs.Flags.{SYN}
+use Rattle.connection.specs.Ends.{opener}
 use Rattle.connection.specs.Stages.{lifeOf}
-use Rattle.rows.specs.Rows as rows
-use Rattle.rows.specs.Rows.{Ask, nowhere}
+use Rattle.rows.specs.Rows.{Ask, FindsNone, nowhere}
 use Rattle.rows.specs.Connections.{connections}
-use Rattle.rows.specs.declared.Found.the-variants.{Nothing}
-use Rattle.history.specs.History.{LineSegment, onWire, stageOf, Formed}
+use Rattle.history.specs.History.{LineSegment, onWire, stageOf}
 use Rattle.honest.specs.Machine.{Said, asks, apart, Machine, clockIn}
-use Rattle.honest.specs.Rules.{Label, opening, arrival, other, Is, Event, send, call, delivery, Pair, Sent, Arrived, InOrder, sideOf, keyOf, Honest}
+use Rattle.honest.specs.Rules.{Label, opening, arrival, other, Is, Event, send, call, delivery, Pair, sideOf, keyOf, Sent, Arrived, Honest}
 
 module _ (M : Machine) where
   abbrev pub Events : Type 0
@@ -24,13 +25,14 @@ module _ (M : Machine) where
     -- the table that the last call left
     pub state : M .State
     -- whether the opening has been, and its place
-    pub opened : Bool
+    pub openingSeen : Bool
     pub place : ℕ
     -- the segments that passed on the opening's entry, newest first
-    pub passed : List LineSegment
-    -- the largest clock given at any pass so far on this part of the table; before the first the header's, 0 in a fresh table
+    pub history : List LineSegment
+    -- "The pass clock is the largest clock given at any pass so far, 0 before the first": on this part of the table, and before the first the
+    -- header's, which is 0 in a fresh table
     pub passClock : ℕ
-    -- the pass clock right after the latest pass on the opening's entry plus the life of the stage which that pass gave
+    -- "the pass clock right after the latest pass on the opening's entry plus the life of the stage which that pass gave"
     pub until : ℕ
 
   unfoldable pub passes : Told → M .Call → Bool
@@ -45,11 +47,11 @@ module _ (M : Machine) where
   abbrev pub afterSegment : Told → M .Call → ℕ → LineSegment → Told
   afterSegment t q place p = record {
     state = M .run (t .state) q .next;
-    opened = true;
+    openingSeen = true;
     place = place;
-    passed = if passes t q then p ∷ t .passed else t .passed;
+    history = if passes t q then p ∷ t .history else t .history;
     passClock = nextClock t q;
-    until = if passes t q then nextClock t q + lifeOf (stageOf (p ∷ t .passed)) else t .until;
+    until = if passes t q then nextClock t q + lifeOf (stageOf (p ∷ t .history)) else t .until;
   }
 
   unfoldable pub afterCall : Told → M .Call → Label → Told
@@ -57,21 +59,21 @@ module _ (M : Machine) where
   afterCall t q (arrival k p) = afterSegment t q (t .place) p
   afterCall t q other = record {
     state = M .run (t .state) q .next;
-    opened = t .opened;
+    openingSeen = t .openingSeen;
     place = t .place;
-    passed = t .passed;
+    history = t .history;
     passClock = nextClock t q;
     until = t .until;
   }
 
-  -- live at a call, told from the calls: the larger of this call's clock and the pass clock is under `until`
+  -- live at a call, "told from the calls: the larger of this call's clock and the pass clock is under" `until`
   abbrev pub Live : Told → M .Call → Type 0
   Live t q = max (clockIn (M .reads q)) (t .passClock) < t .until
 
   module _ (s₀ : M .State) where
-    -- each call is lent the table that the last one left
+    -- "A gate call, whatever its answer, is lent the table that the last one left."
     unfoldable pub told : Events → Told
-    told [] = record { state = s₀; opened = false; place = nowhere; passed = []; passClock = M .view s₀ .clock; until = 0 }
+    told [] = record { state = s₀; openingSeen = false; place = nowhere; history = []; passClock = M .view s₀ .clock; until = 0 }
     told (send p ∷ L) = told L
     told (call q l ∷ L) = afterCall (told L) q l
     told (delivery k p ∷ L) = told L
@@ -79,24 +81,33 @@ module _ (M : Machine) where
     abbrev pub said : Events → M .Call → Said (M .State)
     said L q = M .run (told L .state) q
 
-    -- an arrival of an end's k-th sending, p, was answered 0
+    -- "an arrival of it, the opening or a later one, was answered 0": of an end's k-th sending, p
     abbrev pub WasPassed : ℕ → LineSegment → Events → Type 0
     WasPassed k p [] = ⊥
     WasPassed k p (send g ∷ L) = WasPassed k p L
     WasPassed k p (call q l ∷ L) = (Is l k p × (passes (told L) q ≡ true)) ⊎ WasPassed k p L
     WasPassed k p (delivery j g ∷ L) = WasPassed k p L
 
-  -- What is asked of each event, by those before it
+  -- "An arrival is a call that brings an end's segment of this connection, its numbers modulo 2^32, with that end's side .. and a clock
+  -- under 2^48." (A larger clock is refused, and asks nothing)
+  abbrev pub bringing : Pair → LineSegment → (clock : ℕ) → Ask
+  bringing P p clock = record { side = sideOf P (p .from); clock = clock; key = keyOf P (p .from); segment = onWire p }
 
-  -- the call brings its end's k-th sending, sent before: its numbers modulo 2^32, with that end's side and a clock
   pub record Arrives (P : Pair) (k : ℕ) (p : LineSegment) (q : M .Call) (L : Events) : Type 0 where
+    -- "each later than its sending"
     pub sent : Sent k p L
     pub clock : ℕ
-    pub brings : M .reads q ≡ asks (record { side = sideOf P (p .from); clock = clock; key = keyOf P (p .from); segment = onWire p })
+    pub brings : M .reads q ≡ asks (bringing P p clock)
 
-  -- the call is passed on the opening's entry, by its place
+  -- "Asked of the list:"
+
+  -- "Each end's arrivals are its sendings in order, .. some left out, some several times in a row.": of end i, none after its k-th has arrived
+  abbrev pub InOrder : (i k : ℕ) → Events → Type 0
+  InOrder i k L = (j : ℕ) (g : LineSegment) → Arrived j g L → g .from ≡ i → j ≤ k
+
+  -- a call is passed on the opening's entry, by its place
   pub record PassedOnOurs (t : Told) (q : M .Call) : Type 0 where
-    pub after-opening : t .opened ≡ true
+    pub after-opening : t .openingSeen ≡ true
     -- once that entry has expired, its place may be another's
     pub live : Live t q
     -- a call on another part of the table isn't on it, whatever its place
@@ -105,43 +116,43 @@ module _ (M : Machine) where
     pub place : M .run (t .state) q .place ≡ t .place
 
   module _ (s₀ : M .State) (P : Pair) where
-    -- the opening: an arrival of the opener's SYN that finds no live match and is answered 0
+    -- "The opening is an arrival of the opener's SYN that finds no live match and is answered 0."
     pub record Opening (k : ℕ) (p : LineSegment) (q : M .Call) (L : Events) : Type 0 where
-      pub first-one : told s₀ L .opened ≡ false
+      pub first-one : told s₀ L .openingSeen ≡ false
       pub arrives : Arrives P k p q L
-      pub opener : p .from ≡ 0
-      pub finds-none :
-          (a : Ask) → M .reads q ≡ asks a →
-          let v = M .view (told s₀ L .state) in rows.search connections v (rows.clockUsed connections v a) (a .side) (a .key) ≡ Nothing
+      pub by-opener : p .from ≡ opener
+      pub is-syn : p .flags ≡ SYN
+      pub finds-none : FindsNone connections (M .view (told s₀ L .state)) (bringing P p (arrives .clock))
       pub answered-0 : passes (told s₀ L) q ≡ true
 
-    -- an arrival after it: no later sending of its end has arrived, and the connection is live
+    -- an arrival after it: in order, and "At each arrival after the opening the connection is live, told from the calls"
     pub record Arrival (k : ℕ) (p : LineSegment) (q : M .Call) (L : Events) : Type 0 where
-      pub after-opening : told s₀ L .opened ≡ true
+      pub after-opening : told s₀ L .openingSeen ≡ true
       pub arrives : Arrives P k p q L
-      pub in-order : InOrder (λ j g. Arrived j g L) (p .from) k
+      pub in-order : InOrder (p .from) k L
       pub live : Live (told s₀ L) q
 
     abbrev pub FairCall : Label → M .Call → Events → Type 0
     FairCall (opening k p) q L = Opening k p q L
     FairCall (arrival k p) q L = Arrival k p q L
-    -- a call that is no arrival may give anything, but isn't passed on the opening's entry
+    -- "After the opening, a call that is no arrival may give anything, but isn't passed on the opening's entry."
     FairCall other q L = PassedOnOurs (told s₀ L) q → ⊥
 
     abbrev pub Fair : Event (M .Call) → Events → Type 0
-    -- a sending keeps the rules by what was delivered before it, and its packet is well formed
-    Fair (send p) L = (p .from < 2) × Formed p × Honest P p L
+    -- "A sending keeps the rules above by what was delivered before it."
+    Fair (send p) L = Honest P p L
     Fair (call q l) L = FairCall l q L
-    -- a segment is delivered only after an arrival of it, the opening or a later one, was answered 0
+    -- "A segment is delivered only after an arrival of it, the opening or a later one, was answered 0: never, once or often, in any order."
     Fair (delivery k p) L = WasPassed s₀ k p L
 
+    -- all of this of each event, by those before it
     abbrev pub Legal : Events → Type 0
     Legal [] = Unit {0}
     Legal (x ∷ L) = Fair x L × Legal L
 
   -- The claim
 
-  -- each arrival after the opening has answer 0 and the same table place as the opening
+  -- "Then each arrival after the opening has answer 0 and the same table place as the opening."
   abbrev pub NeverBlocked : M .State → Events → Type 0
   NeverBlocked s₀ [] = Unit {0}
   NeverBlocked s₀ (send p ∷ L) = NeverBlocked s₀ L

@@ -43,13 +43,13 @@ module _ (M : Machine) (Sound : M .State → Type 0) where
     pub refusal-placed : (s : M .State) (q : M .Call) (n : ℕ) → Sound s → M .reads q ≡ refused n → M .run s q .place ≡ nowhere
     pub refusal-blocks : (q : M .Call) (n : ℕ) → M .reads q ≡ refused n → n ≡ 0 → ⊥
     -- one that asks is answered by rows 11 to 15 and 0
-    pub answered :
+    pub answer-by-rows :
         (s : M .State) (q : M .Call) (a : Ask) → Sound s → M .reads q ≡ asks a →
         M .run s q .answer ≡ answerOf connections (filter connections (M .view s) a)
-    pub placed :
+    pub place-by-rows :
         (s : M .State) (q : M .Call) (a : Ask) → Sound s → M .reads q ≡ asks a →
         M .run s q .place ≡ placeBy (M .number) (filter connections (M .view s) a)
-    pub left :
+    pub view-by-rows :
         (s : M .State) (q : M .Call) (a : Ask) → Sound s → M .reads q ≡ asks a →
         M .view (M .run s q .next) ≡ after connections (M .view s) (filter connections (M .view s) a)
     -- and brings a segment fit for the line, as all are that the packet reader gives

@@ -25,8 +25,8 @@ byAnswerer clock g = record { side = 1; clock = clock; key = reversed outward; s
 
 -- Tables
 
-abbrev pub after : View connections → Ask → View connections
-after t a = rows.after connections t (filter connections t a)
+abbrev pub afterAsk : View connections → Ask → View connections
+afterAsk t a = rows.after connections t (filter connections t a)
 
 abbrev pub empty : View connections
 empty = fresh connections 64
@@ -41,11 +41,11 @@ packet2 = byAnswerer 100 (segment SYN+ACK 500 1 101 2000)
 abbrev pub packet3 : Ask
 packet3 = byOpener 200 (segment ACK 101 0 502 1000)
 
-abbrev pub opened : View connections
-opened = after empty packet1
+abbrev pub afterSyn : View connections
+afterSyn = afterAsk empty packet1
 
 abbrev pub stateK : View connections
-stateK = after opened packet2
+stateK = afterAsk afterSyn packet2
 
 -- C11's own records: sender end = edge = 1, other win 1
 abbrev pub entry11 : Entry connections
@@ -86,7 +86,7 @@ leaves name table call answer left = record { name = name; table = table; call =
 abbrev pub markedSet : List Case
 markedSet =
     leaves (example 1) empty packet1 0 (ends (numbers 101 101 1000) (numbers 0 0 1))
-    ∷ leaves (example 2) opened packet2 0 (ends (numbers 101 2101 1000) (numbers 501 501 2000))
+    ∷ leaves (example 2) afterSyn packet2 0 (ends (numbers 101 2101 1000) (numbers 501 501 2000))
     ∷ is (example 3) stateK packet3 15
     ∷ is (C 1) stateK (byOpener 200 (segment ACK 101 2000 501 1000)) 0
     ∷ is (C 2) stateK (byOpener 200 (segment ACK 101 2001 501 1000)) 14
@@ -99,8 +99,8 @@ markedSet =
     ∷ is (C 9) stateK (byAnswerer 200 (segment ACK 501 1 101 2000)) 14
     ∷ leaves (C 10) stateK (byOpener 200 (segment ACK 101 0 501 0)) 0 (answererEdge 502)
     ∷ is (C 11) state11 (byOpener 0 (segment ACK 2147483647 65495 1 1)) 14
-    ∷ is (C 12) opened (byAnswerer 59999 (segment SYN+ACK 500 1 101 2000)) 0
-    ∷ is (C 12) opened (byAnswerer 60000 (segment SYN+ACK 500 1 101 2000)) 11
+    ∷ is (C 12) afterSyn (byAnswerer 59999 (segment SYN+ACK 500 1 101 2000)) 0
+    ∷ is (C 12) afterSyn (byAnswerer 60000 (segment SYN+ACK 500 1 101 2000)) 11
     ∷ []
 
 -- The claim
@@ -119,7 +119,7 @@ holds c =
     let o = filter connections (c .table) (c .call) in
     (answerOf connections o =ᵇ c .answer)
     && ((placeBy (λ p. p) o =ᵇ (if c .answer =ᵇ 0 then 0 else nowhere))
-    && isLeft (c .left) (after (c .table) (c .call) .entry 0 .connection .ends))
+    && isLeft (c .left) (afterAsk (c .table) (c .call) .entry 0 .connection .ends))
 
 abbrev pub allHold : List Case → Bool
 allHold [] = true

@@ -1,7 +1,7 @@
--- Honest ends (document 01): events, what was sent, has arrived and was received, and what an end may send. Lists are newest first: in
--- x ∷ L, x comes after all of L. Segments are those of `history`: their numbers are whole numbers, and `from` is 0 for the opener, 1 for
--- the answerer.
-use Prim.Native.Nat.{ℕ, _+_, _-_, _≤_, max}
+-- Honest ends (document 01): events, what was sent, has arrived and was received, and what an end may send. In document 01's order, with its
+-- sentences above what states them. Lists are newest first: in x ∷ L, x comes after all of L. "Places here are whole numbers": segments are
+-- those of `history`, with places on the unwrapped line.
+use Prim.Native.Nat.{ℕ, _+_, _<_, _≤_, max}
 use mathlib.Core.Path.{_≡_}
 use mathlib.Core.Logic.{_⊎_}
 use mathlib.Core.Bool.{Bool, true, false, _||_}
@@ -11,7 +11,9 @@ use Rattle.choice.specs.Choice.{if_then_else_, _=ᵇ_}
 use Rattle.address.specs.Flows.{reversed}
 use Rattle.address.specs.declared.Flow.{Flow}
 use Rattle.segment.specs.Flags.{syn, rst, ack, SYN, SYN+ACK}
-use Rattle.history.specs.History.{LineSegment}
+use Rattle.connection.specs.Ends.{opener, answerer, otherEnd}
+use Rattle.rows.specs.Rows.{otherSide}
+use Rattle.history.specs.History.{LineSegment, Formed}
 
 -- Events
 
@@ -28,7 +30,7 @@ Is (opening j g) k p = (k ≡ j) × (p ≡ g)
 Is (arrival j g) k p = (k ≡ j) × (p ≡ g)
 Is other k p = ⊥
 
--- an end sends a segment; the filter is called; an end's k-th sending comes to the far end
+-- an end sends a segment; the filter is called; an end's k-th sending comes to the other end
 pub data Event (Call : Type 0) : Type 0 where
   send : LineSegment → Event Call
   call : Call → Label → Event Call
@@ -40,7 +42,14 @@ pub record Pair : Type 0 where
   pub key : Flow
   pub start : ℕ → ℕ
 
--- What was sent, has arrived and was received
+-- side, addresses and ports of an end; "the answerer's is the one that the opener's isn't"
+abbrev pub sideOf : Pair → ℕ → ℕ
+sideOf P i = if i =ᵇ opener then P .side else otherSide (P .side)
+
+abbrev pub keyOf : Pair → ℕ → Flow
+keyOf P i = if i =ᵇ opener then P .key else reversed (P .key)
+
+-- Sent, arrived, received
 
 module _ {Call : Type 0} where
   -- what end i has sent, newest first
@@ -64,16 +73,13 @@ module _ {Call : Type 0} where
   Arrived k p (call q l ∷ L) = Is l k p ⊎ Arrived k p L
   Arrived k p (delivery j g ∷ L) = Arrived k p L
 
-  -- what end i has received, newest first
+  -- what end i has received, newest first. "'received' means passed by the gate on this connection, from the opening SYN that made its entry
+  -- on, and delivered; what passed on an earlier entry of the same ports doesn't count": a legal list has no other deliveries (`Fair`)
   unfoldable pub receivedBy : ℕ → List (Event Call) → List LineSegment
   receivedBy i [] = []
   receivedBy i (send p ∷ L) = receivedBy i L
   receivedBy i (call q l ∷ L) = receivedBy i L
   receivedBy i (delivery k p ∷ L) = if p .from =ᵇ i then receivedBy i L else p ∷ receivedBy i L
-
--- "each end's arrivals are its sendings in order, .. some left out, some several times in a row": of end i, none after its k-th has arrived
-abbrev pub InOrder : (HasArrived : ℕ → LineSegment → Type 0) (i k : ℕ) → Type 0
-InOrder HasArrived i k = (j : ℕ) (g : LineSegment) → HasArrived j g → g .from ≡ i → j ≤ k
 
 -- the highest of a number over segments, 0 over none
 unfoldable pub highest : (LineSegment → ℕ) → List LineSegment → ℕ
@@ -84,7 +90,7 @@ unfoldable pub some : (LineSegment → Bool) → List LineSegment → Bool
 some test [] = false
 some test (p ∷ l) = test p || some test l
 
--- acknowledgement, right edge a + max(w, 1), and end of a segment; a segment without ACK has neither of the first two
+-- acknowledgement, right edge a + max(w, 1), and end (FIN counted) of a segment; one without ACK has neither of the first two
 abbrev pub ackOf : LineSegment → ℕ
 ackOf p = if ack (p .flags) =ᵇ 1 then p .acked else 0
 
@@ -94,42 +100,57 @@ edgeOf p = if ack (p .flags) =ᵇ 1 then p .acked + max (p .window) 1 else 0
 abbrev pub endOf : LineSegment → ℕ
 endOf p = p .start + p .length
 
--- the opener has received a SYN+ACK; the answerer has received an ACK
+-- an end has an answer: the opener once it has received a SYN+ACK, the answerer once it has received an ACK
 unfoldable pub hasAnswer : {Call : Type 0} → ℕ → List (Event Call) → Bool
-hasAnswer i L = if i =ᵇ 0 then some (λ g. g .flags =ᵇ SYN+ACK) (receivedBy 0 L) else some (λ g. ack (g .flags) =ᵇ 1) (receivedBy 1 L)
+hasAnswer i L =
+    if i =ᵇ opener then some (λ g. g .flags =ᵇ SYN+ACK) (receivedBy opener L)
+    else some (λ g. ack (g .flags) =ᵇ 1) (receivedBy answerer L)
 
--- The honest rules
+-- The rules: what an end may send, by what was sent and received before
 
-module _ (P : Pair) where
-  -- side, addresses and ports of end i; the answerer's side is the one that the opener's isn't
-  abbrev pub sideOf : ℕ → ℕ
-  sideOf i = if i =ᵇ 0 then P .side else 1 - P .side
+module _ (P : Pair) {Call : Type 0} (p : LineSegment) (L : List (Event Call)) where
+  -- "The opener sends SYN, repeats only that until it receives a SYN+ACK, and never again after." (A repeat's window is free)
+  pub record OpenersSyn : Type 0 where
+    pub by-opener : p .from ≡ opener
+    pub flags : p .flags ≡ SYN
+    pub start : p .start ≡ P .start opener
+    pub until-answer : hasAnswer opener L ≡ false
 
-  abbrev pub keyOf : ℕ → Flow
-  keyOf i = if i =ᵇ 0 then P .key else reversed (P .key)
+  -- "The answerer, having received the SYN, sends SYN+ACK acknowledging the SYN's end, and repeats only that until it receives an ACK."
+  pub record AnswerersSynAck : Type 0 where
+    pub by-answerer : p .from ≡ answerer
+    pub has-syn : some (λ g. g .flags =ᵇ SYN) (receivedBy answerer L) ≡ true
+    pub flags : p .flags ≡ SYN+ACK
+    pub start : p .start ≡ P .start answerer
+    pub acks-syn : p .acked ≡ P .start opener + 1
+    pub until-answer : hasAnswer answerer L ≡ false
 
-  -- the opener's SYN; the answerer's SYN+ACK, acknowledging the SYN's end
-  pub record FirstSegment (p : LineSegment) : Type 0 where
-    pub flags : p .flags ≡ (if p .from =ᵇ 0 then SYN else SYN+ACK)
-    pub start : p .start ≡ P .start (p .from)
-    pub acks : p .from ≡ 1 → p .acked ≡ P .start 0 + 1
-
-  -- every later segment; no reset is sent
-  pub record LaterSegment {Call : Type 0} (p : LineSegment) (L : List (Event Call)) : Type 0 where
+  -- "Every later segment has ACK and no SYN,"
+  pub record LaterSegment : Type 0 where
+    pub by-either : p .from < 2
+    pub after-answer : hasAnswer (p .from) L ≡ true
     pub has-ack : ack (p .flags) ≡ 1
     pub no-syn : syn (p .flags) ≡ 0
-    pub no-reset : rst (p .flags) ≡ 0
-    -- starts at or above the highest acknowledgement its sender has received
+    -- "starts at or above the highest acknowledgement its sender has received,"
     pub starts : highest ackOf (receivedBy (p .from) L) ≤ p .start
-    -- ends at or below the highest a + max(w, 1) received
+    -- "ends (FIN counted) at or below the highest a + max(w, 1) received,"
     pub ends : endOf p ≤ highest edgeOf (receivedBy (p .from) L)
-    -- acknowledges no less than the end of the other end's SYN and no further than the highest end received
-    pub acks-syn : P .start (1 - p .from) + 1 ≤ p .acked
+    -- "and acknowledges no less than the end of the other end's SYN"
+    pub acks-syn : P .start (otherEnd (p .from)) + 1 ≤ p .acked
+    -- "and no further than the highest end received."
     pub acks-received : p .acked ≤ highest endOf (receivedBy (p .from) L)
-    -- an end's acknowledgement numbers never fall in sending order
+    -- "An end's acknowledgement numbers never fall in sending order."
     pub acks-rise : highest ackOf (sentBy (p .from) L) ≤ p .acked
+    -- the order, demand 3: no reset is sent
+    pub no-reset : rst (p .flags) ≡ 0
 
-  -- each end repeats its first segment until it is answered, the answerer from the SYN's receipt on, and never again after
-  pub data Honest {Call : Type 0} (p : LineSegment) (L : List (Event Call)) : Type 0 where
-    first : FirstSegment p → hasAnswer (p .from) L ≡ false → (p .from ≡ 1 → some (λ g. g .flags =ᵇ SYN) (receivedBy 1 L) ≡ true) → Honest p L
-    later : LaterSegment p L → hasAnswer (p .from) L ≡ true → Honest p L
+  pub data Allowed : Type 0 where
+    openers-syn : OpenersSyn → Allowed
+    answerers-syn-ack : AnswerersSynAck → Allowed
+    later : LaterSegment → Allowed
+
+  -- "Each packet is well formed by answers 5 to 10.": of the segment, a 16-bit window and no payload with SYN; the rest is its packet's,
+  -- which has to be read as this segment (`Arrives`)
+  pub record Honest : Type 0 where
+    pub allowed : Allowed
+    pub formed : Formed p
