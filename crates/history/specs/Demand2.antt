@@ -1,21 +1,18 @@
 -- Demand 2 for one connection: after any segments presented to it, its numbers and its next answer are the history's.
 use Prim.Native.Nat.{ℕ, _<_}
 use mathlib.Core.Path.{_≡_}
-use mathlib.Core.Bool.{Bool, true}
-use mathlib.Core.Logic.{_↔_}
+use mathlib.Core.Bool.{Bool}
 use mathlib.Core.List.{List, [], _∷_}
 use Rattle.choice.specs.Choice.{if_then_else_, _=ᵇ_}
-use Rattle.serial.specs.Ring.{wrap}
-use Rattle.segment.specs.Flags.{rst, ack, SYN}
+use Rattle.segment.specs.Flags.{rst, SYN}
 use Rattle.segment.specs.declared.Segment.{Segment}
-use Rattle.connection.specs.Ends.{opener, otherEnd}
+use Rattle.connection.specs.Ends.{opener}
 use Rattle.connection.specs.Decision.{verdictOn, verdictNumber, free, opened, passed}
 use Rattle.connection.specs.declared.Connection.{Connection}
 use Rattle.connection.specs.declared.Verdict.{Verdict}
-use Rattle.connection.specs.declared.Verdict.the-variants.{Pass, SequenceMissed, AckMissed}
-use Rattle.connection.specs.Ranges.{ackRange}
-use Rattle.history.specs.Numbers.{boundsI-II, boundsIII-IV}
-use Rattle.history.specs.History.{LineSegment, numbersOf, stageOf, placed, judge, Holds, Placeable}
+use Rattle.connection.specs.declared.Verdict.the-variants.{Pass}
+use Rattle.history.specs.History.{LineSegment, stageOf, placed, judge, Holds, Placeable}
+use Rattle.history.specs.Places.{OnePlace}
 
 -- a segment presented to a connection, of its opener or its answerer, at a clock used
 pub record Presented : Type 0 where
@@ -87,31 +84,10 @@ Demand2OfConnection =
     (o : Presented) → Presentable o →
     Agree (connectionAfter (opened side g now) l) (historyAfter (openingHistory g) l) o
 
--- Where the bounds are met the place on the line is unique, so the answers speak of all places with the segment's 32 bits
-
--- o's octets from S on meet bounds I and II; an acknowledgement of A meets III and IV
-abbrev pub sequenceMetAt : List LineSegment → Presented → ℕ → Bool
-sequenceMetAt h o S = boundsI-II (numbersOf (o .sender) h) (numbersOf (otherEnd (o .sender)) h) S (o .segment .octets .0)
-
-abbrev pub ackMetAt : List LineSegment → Presented → ℕ → Bool
-ackMetAt h o A = boundsIII-IV ackRange (numbersOf (otherEnd (o .sender)) h) A
-
-pub record OnePlace (c : Connection) (h : List LineSegment) (o : Presented) : Type 0 where
-  -- where a place with the segment's sequence number meets I and II, it is the one that the segment is given: the nearest
-  pub start-unique : (S : ℕ) → wrap S ≡ o .segment .seq .0 → sequenceMetAt h o S ≡ true → S ≡ onLine h o .start
-  -- the same of its acknowledgement number, III and IV
-  pub acked-unique : (A : ℕ) → wrap A ≡ o .segment .ack .0 → ackMetAt h o A ≡ true → A ≡ onLine h o .acked
-  -- 14 exactly where no such place meets I and II
-  pub sequence : (answerTo c o ≡ SequenceMissed) ↔ ((S : ℕ) → wrap S ≡ o .segment .seq .0 → sequenceMetAt h o S ≡ true → ⊥)
-  -- with ACK, and where one does: 15 exactly where no such acknowledgement meets III and IV
-  pub acknowledgement :
-      ack (o .segment .flags) ≡ 1 → (S : ℕ) → wrap S ≡ o .segment .seq .0 → sequenceMetAt h o S ≡ true →
-      (answerTo c o ≡ AckMissed) ↔ ((A : ℕ) → wrap A ≡ o .segment .ack .0 → ackMetAt h o A ≡ true → ⊥)
-
--- from an opening SYN g on, as above, once the connection has been answered
+-- from an opening SYN g on, as above, once the connection has been answered: 14, 15 and 0 speak of all places on the line
 abbrev pub Uniqueness : Type 0
 Uniqueness =
     (side : ℕ) (g : Segment) (now : ℕ) → Placeable g → g .flags ≡ SYN →
     (l : List Presented) → AllPresentable l → NoReset (openingHistory g) l → (stageOf (historyAfter (openingHistory g) l) ≡ 1 → ⊥) →
     (o : Presented) → Presentable o →
-    OnePlace (connectionAfter (opened side g now) l) (historyAfter (openingHistory g) l) o
+    OnePlace (historyAfter (openingHistory g) l) (o .sender) (o .segment) (verdictNumber (answerTo (connectionAfter (opened side g now) l) o))

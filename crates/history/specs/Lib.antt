@@ -1,4 +1,5 @@
 pub mod Numbers
 pub mod History
+pub mod Places
 pub mod Demand2
 pub mod Records

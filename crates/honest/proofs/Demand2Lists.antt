@@ -16,13 +16,16 @@ use Rattle.connection.specs.Stages.{lifeOf}
 use Rattle.connection.specs.Decision.{verdictOn, passed, opened}
 use Rattle.connection.specs.declared.Connection.{Connection}
 use Rattle.connection.specs.declared.Verdict.the-variants.{Pass}
-use Rattle.rows.specs.Rows.{Ask, isOpening, Entry, View, freeEntry, entryWith, entryAfter, openingEntry, filter}
+use Rattle.rows.specs.Rows.{Ask, isOpening, Entry, View, freeEntry, clockUsed, senderOf, entryWith, entryAfter, openingEntry, filter, answerOf}
 use Rattle.rows.specs.Connections.{connections}
+use Rattle.rows.specs.declared.Found.the-variants.{At}
+use Rattle.rows.proofs.Rows.{sender-known, onSegment-by-search, onEntry-by-verdict, answer-by-verdict, found-live}
 use Rattle.history.specs.Numbers.{onRing}
 use Rattle.history.specs.History.{LineSegment, numbersOf, finsOf, stageOf, placed, judge, Holds, Placeable}
 use Rattle.history.proofs.Demand2.{Reached, unanswered, answered, judged, pass-holds, holds-first, reached-first}
+use Rattle.history.proofs.Places.{one-place}
 use Rattle.honest.specs.Histories.{History, grown, histories, recordsOf, connectionOf}
-use Rattle.honest.specs.Demand2.{fresh, viewAfter, AllPlaceable, Demand2}
+use Rattle.honest.specs.Demand2.{fresh, viewAfter, AllPlaceable, ByAllPlaces, Demand2}
 use Rattle.honest.proofs.Arrival.{passed-renewed}
 use Rattle.honest.proofs.Simulation.{Agreeing, Related, Alike, answer-alike, place-alike, after-alike, filter-same}
 use Rattle.honest.proofs.SoundKept.{reset-frees}
@@ -166,6 +169,25 @@ tables-related n (a ∷ l) placeable =
     let u = viewAfter histories n l in
     after-alike Stands t u before (filter connections t a) (filter histories u a) (same-outcome t u before a (placeable .0))
 
+-- on an entry that was found, from stage 2 on, the answer speaks of all places
+places-related :
+    (t : View connections) (u : View histories) → Related Stands t u → (a : Ask) → Placeable (a .segment) →
+    ByAllPlaces u a (answerOf connections (filter connections t a))
+places-related t u related a placeable p m =
+    let now = clockUsed histories u a in
+    let f = u .entry p in
+    let h = f .connection .segments in
+    let i = senderOf histories f (a .side) in
+    let g = a .segment in
+    let live = found-live histories u now (a .side) (a .key) g p (m .match) .1 in
+    let by-match = onSegment-by-search histories u now (a .side) (a .key) g (At p) (m .match) in
+    let by-entry = onEntry-by-verdict histories f p now (a .side) g (judge h (placed h i g)) refl in
+    let answer =
+    answer-alike Stands (filter connections t a) (filter histories u a) (same-outcome t u related a placeable)
+    ∙ ap (answerOf histories) (by-match ∙ by-entry)
+    ∙ answer-by-verdict histories (judge h (placed h i g)) p now _ in
+    rw answer (one-place h (related .entries p .reached (omega (arith, live))) (m .stage) i (sender-known histories f (a .side)) g placeable)
+
 pub demand2 : Demand2
 demand2 n l placeable =
     let related = tables-related n l placeable in
@@ -176,4 +198,5 @@ demand2 n l placeable =
       answer = λ a placeable. answer-alike Stands (filter connections t a) (filter histories u a) (same-outcome t u related a placeable);
       place = λ number a placeable.
           place-alike Stands number (filter connections t a) (filter histories u a) (same-outcome t u related a placeable);
+      all-places = places-related t u related;
     }

@@ -58,6 +58,10 @@ module _
             keeps .place-by-rows s q a (stays-sound l) e
             ∙ ap (λ (v : View connections). placeBy (M .number) (filter connections v a)) (view-after l)
             ∙ follows .place (M .number) a (keeps .well-formed q a e);
+        all-places = λ q a e.
+            rw (keeps .answer-by-rows s q a (stays-sound l) e
+            ∙ ap (λ (v : View connections). answerOf connections (filter connections v a)) (view-after l))
+            (follows .all-places a (keeps .well-formed q a e));
         refusal-answer = λ q m e. keeps .refusal-answered s q m (stays-sound l) e;
         refusal-place = λ q m e. keeps .refusal-placed s q m (stays-sound l) e;
         apart-stays = λ q e. keeps .apart-keeps s q (stays-sound l) e;

@@ -3,9 +3,12 @@
 use Prim.Native.Nat.{ℕ}
 use mathlib.Core.Path.{_≡_}
 use mathlib.Core.List.{List, [], _∷_}
-use Rattle.rows.specs.Rows.{Bodies, Ask, View, Outcome, freeEntry, filter, answerOf, placeBy, after, nowhere}
+use Rattle.rows.specs.Rows as rows
+use Rattle.rows.specs.Rows.{Bodies, Ask, View, Outcome, freeEntry, clockUsed, senderOf, filter, answerOf, placeBy, after, nowhere}
 use Rattle.rows.specs.Connections.{connections}
-use Rattle.history.specs.History.{Placeable}
+use Rattle.rows.specs.declared.Found.the-variants.{At}
+use Rattle.history.specs.History.{stageOf, Placeable}
+use Rattle.history.specs.Places.{OnePlace}
 use Rattle.honest.specs.Machine.{Reading, refused, asks, apart, Machine}
 use Rattle.honest.specs.Histories.{histories, inNumbers}
 
@@ -28,6 +31,17 @@ unfoldable pub AllPlaceable : List Ask → Type 0
 AllPlaceable [] = Unit {0}
 AllPlaceable (a ∷ l) = Placeable (a .segment) × AllPlaceable l
 
+-- a call has found the history at place p, from stage 2 on
+pub record MatchedLater (v : View histories) (a : Ask) (p : ℕ) : Type 0 where
+  pub match : rows.search histories v (clockUsed histories v a) (a .side) (a .key) ≡ At p
+  pub stage : stageOf (v .entry p .connection .segments) ≡ 1 → ⊥
+
+-- then the answer speaks of all places on the line that have the segment's 32 bits: 14 says that no place at all meets I and II
+abbrev pub ByAllPlaces : View histories → Ask → (answer : ℕ) → Type 0
+ByAllPlaces v a answer =
+    (p : ℕ) → MatchedLater v a p →
+    OnePlace (v .entry p .connection .segments) (senderOf histories (v .entry p) (a .side)) (a .segment) answer
+
 -- after a list of calls the table is that of the histories in numbers, and the next call has the answer and the place that they give,
 -- whatever the numbers of the places are
 pub record FollowsHistories (n : ℕ) (l : List Ask) : Type 0 where
@@ -38,6 +52,9 @@ pub record FollowsHistories (n : ℕ) (l : List Ask) : Type 0 where
   pub place :
       (number : ℕ → ℕ) (a : Ask) → Placeable (a .segment) →
       placeBy number (outcomeAfter connections n l a) ≡ placeBy number (outcomeAfter histories n l a)
+  pub all-places :
+      (a : Ask) → Placeable (a .segment) →
+      ByAllPlaces (viewAfter histories n l) a (answerOf connections (outcomeAfter connections n l a))
 
 -- from the fresh table of any number of places, after every list of well-formed calls
 abbrev pub Demand2 : Type 0
@@ -72,6 +89,9 @@ module _ (M : Machine) (s₀ : M .State) where
     pub place :
         (q : M .Call) (a : Ask) → M .reads q ≡ asks a →
         M .run (stateAfter l) q .place ≡ placeBy (M .number) (outcomeAfter histories n (asked M l) a)
+    pub all-places :
+        (q : M .Call) (a : Ask) → M .reads q ≡ asks a →
+        ByAllPlaces (viewAfter histories n (asked M l)) a (M .run (stateAfter l) q .answer)
     pub refusal-answer : (q : M .Call) (m : ℕ) → M .reads q ≡ refused m → M .run (stateAfter l) q .answer ≡ m
     pub refusal-place : (q : M .Call) (m : ℕ) → M .reads q ≡ refused m → M .run (stateAfter l) q .place ≡ nowhere
     pub apart-stays : (q : M .Call) → M .reads q ≡ apart → M .view (M .run (stateAfter l) q .next) ≡ M .view (stateAfter l)

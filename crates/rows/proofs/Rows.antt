@@ -10,6 +10,7 @@ use Rattle.choice.proofs.Choice.{if-true, if-false, if-either, if-=, if-=-not}
 use Rattle.choice.proofs.Tests.{&&-true}
 use Rattle.address.specs.declared.Flow.{Flow}
 use Rattle.segment.specs.declared.Segment.{Segment}
+use Rattle.connection.specs.Decision.{verdictNumber}
 use Rattle.connection.specs.declared.Verdict.{Verdict}
 use Rattle.connection.specs.declared.Verdict.the-variants.{Pass, NotAllowed, SequenceMissed, AckMissed}
 use Rattle.rows.specs.Rows as rows
@@ -61,6 +62,13 @@ module _ (B : Bodies) where
       onEntry B e p now side g ≡ byVerdict B v (Passed p now (entryAfter B e (senderOf B e side) g now))
   unfolding onEntry
   onEntry-by-verdict e p now side g v h = rw h
+
+  -- a verdict's number is the answer
+  pub answer-by-verdict : (w : Verdict) (p now : ℕ) (e : Entry B) → answerOf B (byVerdict B w (Passed p now e)) ≡ verdictNumber w
+  answer-by-verdict Pass p now e = refl
+  answer-by-verdict NotAllowed p now e = refl
+  answer-by-verdict SequenceMissed p now e = refl
+  answer-by-verdict AckMissed p now e = refl
 
   module _ (v : View B) (now side : ℕ) (k : Flow) (g : Segment) where
     pub unmatched-not-from-side-0 : (side ≡ 0 → ⊥) → unmatched B v now side k g ≡ Blocked 11
