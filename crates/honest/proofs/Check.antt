@@ -34,7 +34,7 @@ pub record Test (A : Type 0) : Type 0 where
   pub shows : holds ≡ true → A
 
 module _ {A B : Type 0} where
-  abbrev both : Test A → Test B → Test (A × B)
+  abbrev pub both : Test A → Test B → Test (A × B)
   both s t = record { holds = s .holds && t .holds; shows = λ e. let h = &&-true (s .holds) (t .holds) e in (s .shows (h .0), t .shows (h .1)) }
 
   abbrev either : Test A → Test B → Test (A ⊎ B)
@@ -43,10 +43,10 @@ module _ {A B : Type 0} where
     shows = λ e. ⊎-elim (λ h. inl (s .shows h)) (λ h. inr (t .shows h)) (||-true (s .holds) (t .holds) e);
   }
 
-  abbrev so : (A → B) → Test A → Test B
+  abbrev pub so : (A → B) → Test A → Test B
   so f t = record { holds = t .holds; shows = λ e. f (t .shows e) }
 
-abbrev yes : {A : Type 0} → A → Test A
+abbrev pub yes : {A : Type 0} → A → Test A
 yes a = record { holds = true; shows = λ _. a }
 
 abbrev no : {A : Type 0} → Test A
@@ -58,7 +58,7 @@ isTrue b = record { holds = b; shows = λ e. e }
 abbrev isFalse : (b : Bool) → Test (b ≡ false)
 isFalse b = record { holds = not b; shows = not-true b }
 
-abbrev equal : (m n : ℕ) → Test (m ≡ n)
+abbrev pub equal : (m n : ℕ) → Test (m ≡ n)
 equal m n = record { holds = m =ᵇ n; shows = eqb-true m n }
 
 abbrev atMost : (m n : ℕ) → Test (m ≤ n)
@@ -269,12 +269,12 @@ module _ (t₀ : View connections) (P : Pair) where
   hasPassed k p (call q l ∷ L) = either (both (isLabel l k p) (isTrue (passes M (told M t₀ L) q))) (hasPassed k p L)
   hasPassed k p (delivery j g ∷ L) = hasPassed k p L
 
-  abbrev fair : (x : Event ViewCall) (L : Seen) → Test (Fair M t₀ P x L)
+  abbrev pub fair : (x : Event ViewCall) (L : Seen) → Test (Fair M t₀ P x L)
   fair (send p) L = so (λ h. record { allowed = h .0; formed = h .1 }) (both (allowed p L) (formed p))
   fair (call q l) L = fairCall l q L
   fair (delivery k p) L = hasPassed k p L
 
-  abbrev checked : (L : Seen) → Test (Legal M t₀ P L)
+  abbrev pub checked : (L : Seen) → Test (Legal M t₀ P L)
   checked [] = yes tt
   checked (x ∷ L) = both (fair x L) (checked L)
 

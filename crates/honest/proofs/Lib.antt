@@ -13,3 +13,4 @@ pub mod Transfer
 pub mod Marked
 pub mod Check
 pub mod Witness
+pub mod Needed

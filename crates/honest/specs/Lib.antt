@@ -8,3 +8,4 @@ pub mod Instance
 pub mod Carries
 pub mod Marked
 pub mod Witness
+pub mod Needed

@@ -1,0 +1,191 @@
+-- The premises of demand 3 are needed: for each, a list that is legal but for one event, which breaks it, and in which an arrival is then
+-- blocked. All is computed, on a fresh table of one place. docs/DECISIONS.md names the premises of which no such list is known.
+use Prim.Native.Nat.{ℕ, _-_, _^_}
+use mathlib.Core.Path.{_≡_}
+use mathlib.Core.List.{List, [], _∷_, _++_, reverse}
+use Rattle.segment.specs.Flags.{SYN, SYN+ACK, ACK, ACK+RST}
+use Rattle.rows.specs.Rows.{View}
+use Rattle.rows.specs.Connections.{connections}
+use Rattle.rows.specs.Examples.{outward}
+use Rattle.honest.specs.Machine.{Machine}
+use Rattle.honest.specs.Rules.{Event, send, call, delivery, Pair}
+use Rattle.honest.specs.Honest.{said, Fair, Legal}
+use Rattle.honest.specs.Instance.{ViewCall, viewMachine}
+use Rattle.honest.specs.Demand2.{fresh}
+use Rattle.honest.specs.Witness.{starts, ends, Piece, opener's, answerer's, Seen, sends, opens, arrives, delivers, forges}
+
+-- What a list shows; its parts are told oldest first
+pub record Need : Type 0 where
+  pub pair : Pair
+  pub before : List Seen
+  -- the event that breaks a premise, and one that would have been fair in its place
+  pub broken : Seen
+  pub instead : Seen
+  -- what comes after, up to the arrival that is blocked; none if the event is that arrival itself
+  pub later : List Seen
+  pub answer : ℕ
+
+abbrev one : View connections
+one = fresh connections 1
+
+abbrev M : Machine
+M = viewMachine (λ p. p)
+
+-- each event of the first list is fair after those before it, the second list among them
+abbrev pub FairAfter : Pair → List Seen → List Seen → Type 0
+FairAfter P [] L = Unit {0}
+FairAfter P (x ∷ N) L = Fair M one P x (N ++ L) × FairAfter P N L
+
+-- the answer to the newest event, if it is a call
+abbrev pub newestAnswer : List Seen → ℕ
+newestAnswer [] = 0
+newestAnswer (send p ∷ L) = 0
+newestAnswer (call q l ∷ L) = said M one L q .answer
+newestAnswer (delivery k p ∷ L) = 0
+
+pub record Shown (n : Need) : Type 0 where
+  pub legal-before : Legal M one (n .pair) (reverse (n .before))
+  pub fair-instead : Fair M one (n .pair) (n .instead) (reverse (n .before))
+  pub fair-later : FairAfter (n .pair) (reverse (n .later)) (n .broken ∷ reverse (n .before))
+  pub blocked : newestAnswer (reverse (n .later) ++ n .broken ∷ reverse (n .before)) ≡ n .answer
+
+abbrev pub AllShown : List Need → Type 0
+AllShown [] = Unit {0}
+AllShown (n ∷ l) = Shown n × AllShown l
+
+-- Events; k counts an end's sendings, and the clock is 0 where none is given
+
+abbrev opensAt : (clock : ℕ) → Piece → Seen
+opensAt clock p = opens (λ _. p) 0 clock
+
+abbrev comes : (k clock : ℕ) → Piece → Seen
+comes k clock p = arrives (λ _. p) k clock
+
+abbrev got : (k : ℕ) → Piece → Seen
+got k p = delivers (λ _. p) k
+
+-- sent, arrived and delivered
+abbrev through : (k : ℕ) → Piece → List Seen
+through k p = sends p ∷ comes k 0 p ∷ got k p ∷ []
+
+-- The handshake, with windows of 1000
+
+abbrev syn : Piece
+syn = opener's SYN 0 1 0 1000 tt
+
+abbrev synAck : Piece
+synAck = answerer's SYN+ACK 0 1 1 1000 tt
+
+abbrev ack : Piece
+ack = opener's ACK 1 0 1 1000 tt
+
+abbrev synThrough : List Seen
+synThrough = sends syn ∷ opensAt 0 syn ∷ got 0 syn ∷ []
+
+abbrev synAckThrough : List Seen
+synAckThrough = synThrough ++ through 0 synAck
+
+abbrev handshake : List Seen
+handshake = synAckThrough ++ through 1 ack
+
+-- 2,000 octets of the opener, the first half acknowledged: its end is 2001, and bound II asks for 1001 or above
+abbrev openerAhead : List Seen
+openerAhead =
+    through 2 (opener's ACK 1 1000 1 1000 tt) ++ (through 1 (answerer's ACK 1 0 1001 1000 tt)
+    ++ through 3 (opener's ACK 1001 1000 1 1000 tt))
+
+-- the same of the answerer
+abbrev answererAhead : List Seen
+answererAhead =
+    through 1 (answerer's ACK 1 1000 1 1000 tt) ++ (through 2 (opener's ACK 1 0 1001 1000 tt)
+    ++ through 2 (answerer's ACK 1001 1000 1 1000 tt))
+
+abbrev need : (before : List Seen) (broken instead : Seen) (later : List Seen) (answer : ℕ) → Need
+need before broken instead later answer =
+    record { pair = ends; before = before; broken = broken; instead = instead; later = later; answer = answer }
+
+-- an end whose SYN is number 0 sends an empty ACK at 0
+abbrev zeroPair : Pair
+zeroPair = record { side = 0; key = outward; start = λ i. 0 }
+
+abbrev zeroSyn : Piece
+zeroSyn = record { line = record { from = 0; flags = SYN; start = 0; length = 1; acked = 0; window = 1000 }; formed = tt }
+
+abbrev zeroSynAck : Piece
+zeroSynAck = record { line = record { from = 1; flags = SYN+ACK; start = 0; length = 1; acked = 1; window = 1000 }; formed = tt }
+
+abbrev zeroAck : Piece
+zeroAck = record { line = record { from = 1; flags = ACK; start = 0; length = 0; acked = 1; window = 1000 }; formed = tt }
+
+-- an opener's first ACK that acknowledges 0
+abbrev acksNothing : Piece
+acksNothing = record { line = record { from = 0; flags = ACK; start = 2 ^ 32 - 2; length = 0; acked = 0; window = 1000 }; formed = tt }
+
+-- What an end may send
+
+abbrev pub ofSendings : List Need
+ofSendings =
+    -- the opener "repeats only that": a SYN with another number
+    need (sends syn ∷ opensAt 0 syn ∷ []) (sends (opener's SYN 1 1 0 1000 tt)) (sends syn)
+        (comes 1 0 (opener's SYN 1 1 0 1000 tt) ∷ []) 13
+    -- "until it receives a SYN+ACK, and never again after"
+    ∷ need (handshake ++ openerAhead) (sends syn) (sends (opener's ACK 1001 0 1 1000 tt)) (comes 4 0 syn ∷ []) 14
+    -- the answerer "sends SYN+ACK acknowledging the SYN's end"
+    ∷ need synThrough (sends (answerer's SYN+ACK 0 1 2 1000 tt)) (sends synAck) (comes 0 0 (answerer's SYN+ACK 0 1 2 1000 tt) ∷ []) 13
+    -- "repeats only that"
+    ∷ need synAckThrough (sends (answerer's SYN+ACK 70000 1 1 1000 tt)) (sends synAck) (comes 1 0 (answerer's SYN+ACK 70000 1 1 1000 tt) ∷ []) 14
+    -- "until it receives an ACK"
+    ∷ need (handshake ++ answererAhead) (sends synAck) (sends (answerer's ACK 1001 0 1 1000 tt)) (comes 3 0 synAck ∷ []) 14
+    -- "Every later segment": one sent before that
+    ∷ record {
+      pair = zeroPair;
+      before = sends zeroSyn ∷ opensAt 0 zeroSyn ∷ got 0 zeroSyn ∷ [];
+      broken = sends zeroAck;
+      instead = sends zeroSynAck;
+      later = comes 0 0 zeroAck ∷ [];
+      answer = 13;
+    }
+    -- "starts at or above the highest acknowledgement its sender has received": one octet below
+    ∷ need (handshake ++ openerAhead) (sends (opener's ACK 1000 0 1 1000 tt)) (sends (opener's ACK 1001 0 1 1000 tt))
+        (comes 4 0 (opener's ACK 1000 0 1 1000 tt) ∷ []) 14
+    -- "ends (FIN counted) at or below the highest a + max(w, 1) received": one octet above
+    ∷ need handshake (sends (opener's ACK 1 1001 1 1000 tt)) (sends (opener's ACK 1 1000 1 1000 tt))
+        (comes 2 0 (opener's ACK 1 1001 1 1000 tt) ∷ []) 14
+    -- "acknowledges no less than the end of the other end's SYN"
+    ∷ need synAckThrough (sends acksNothing) (sends ack) (comes 1 0 acksNothing ∷ []) 15
+    -- "and no further than the highest end received": one octet further
+    ∷ need handshake (sends (opener's ACK 1 0 2 1000 tt)) (sends ack) (comes 2 0 (opener's ACK 1 0 2 1000 tt) ∷ []) 15
+    -- "An end's acknowledgement numbers never fall in sending order."
+    ∷ need
+        (sends (opener's SYN 0 1 0 65535 tt) ∷ opensAt 0 (opener's SYN 0 1 0 65535 tt) ∷ got 0 (opener's SYN 0 1 0 65535 tt)
+        ∷ (through 0 synAck ++ (through 1 (opener's ACK 1 0 1 65535 tt)
+        ++ (through 1 (answerer's ACK 1 65495 1 1000 tt) ++ (through 2 (opener's ACK 1 0 65496 65535 tt)
+        ++ through 2 (answerer's ACK 65496 65495 1 1000 tt))))))
+        (sends (opener's ACK 1 0 1 65535 tt)) (sends (opener's ACK 1 0 65496 65535 tt)) (comes 3 0 (opener's ACK 1 0 1 65535 tt) ∷ []) 15
+    ∷ []
+
+-- What is asked of calls and deliveries
+
+abbrev pub ofCalls : List Need
+ofCalls =
+    -- "each later than its sending": never sent
+    need handshake (comes 2 0 (opener's ACK 900000 0 1 1000 tt)) (comes 1 0 ack) [] 14
+    -- "Each end's arrivals are its sendings in order": the opener's ACK comes after what was sent later
+    ∷ need (handshake ++ openerAhead) (comes 1 0 ack) (comes 3 0 (opener's ACK 1001 1000 1 1000 tt)) [] 14
+    -- "The opening" is one: a second one, once the first has expired, and an answerer that goes on as if nothing had been
+    ∷ need handshake (opensAt 432000000 syn) (forges 432000000 syn)
+        (sends (answerer's ACK 1 10 1 1000 tt) ∷ comes 1 432000000 (answerer's ACK 1 10 1 1000 tt) ∷ []) 13
+    -- "that finds no live match": it passes on an earlier connection of the same ports, by its ranges
+    ∷ need (forges 0 syn ∷ forges 0 (answerer's SYN+ACK 70000 1 1 1000 tt) ∷ sends syn ∷ []) (opensAt 0 syn) (opensAt 60000 syn)
+        (got 0 syn ∷ sends synAck ∷ comes 0 0 synAck ∷ []) 14
+    -- "a call that is no arrival .. isn't passed on the opening's entry": a reset that no end has sent
+    ∷ need synAckThrough (forges 0 (opener's ACK+RST 1 0 1 1000 tt)) (forges 0 (opener's ACK+RST 900000 0 1 1000 tt)) (comes 0 0 synAck ∷ []) 11
+    -- "A segment is delivered only after an arrival of it .. was answered 0": one that has not arrived
+    ∷ need (synThrough ++ (sends synAck ∷ [])) (got 0 synAck) (got 0 syn) (sends ack ∷ comes 1 0 ack ∷ []) 13
+    -- "the connection is live": at the deadline
+    ∷ need (synThrough ++ (sends synAck ∷ [])) (comes 0 60000 synAck) (comes 0 59999 synAck) [] 11
+    ∷ []
+
+-- The claim
+abbrev pub EachNeeded : Type 0
+EachNeeded = AllShown ofSendings × AllShown ofCalls
