@@ -169,11 +169,11 @@ module _ (t₀ : View connections) (P : Pair) where
         has-ack = h .0 .1 .1 .0;
         no-syn = h .0 .1 .1 .1 .0;
         no-reset = h .0 .1 .1 .1 .1;
-        starts = h .1 .0 .0;
-        ends = h .1 .0 .1;
-        acks-syn = h .1 .1 .0;
-        acks-received = h .1 .1 .1 .0;
-        acks-rise = h .1 .1 .1 .1;
+        starts = omega (arith, h .1 .0 .0);
+        ends = omega (arith, h .1 .0 .1);
+        acks-syn = omega (arith, h .1 .1 .0);
+        acks-received = omega (arith, h .1 .1 .1 .0);
+        acks-rise = omega (arith, h .1 .1 .1 .1);
       })
       (both
       (both (below (p .from) 2)
@@ -229,13 +229,16 @@ module _ (t₀ : View connections) (P : Pair) where
   isLive q L = so (λ under. omega (arith, under)) (below (max (q .0 .clock) (told M t₀ L .passClock)) (told M t₀ L .until))
 
   -- no later sending of end i has arrived
+  abbrev noneLater : (i k : ℕ) (L : Seen) → Test (NoneLater (λ j g. Arrived j g L) i k)
+  noneLater i k [] = yes (λ j g never. absurd never)
+  noneLater i k (send p ∷ L) = noneLater i k L
+  noneLater i k (call q (opening n p) ∷ L) = so (λ h. one-more i k n p (h .0) (h .1)) (both (ifEqual (p .from) i (atMost n k)) (noneLater i k L))
+  noneLater i k (call q (arrival n p) ∷ L) = so (λ h. one-more i k n p (h .0) (h .1)) (both (ifEqual (p .from) i (atMost n k)) (noneLater i k L))
+  noneLater i k (call q other ∷ L) = so (λ h j g was. ⊎-elim (λ never. absurd never) (h j g) was) (noneLater i k L)
+  noneLater i k (delivery n p ∷ L) = noneLater i k L
+
   abbrev inOrder : (i k : ℕ) (L : Seen) → Test (InOrder M i k L)
-  inOrder i k [] = yes (λ j g never. absurd never)
-  inOrder i k (send p ∷ L) = inOrder i k L
-  inOrder i k (call q (opening n p) ∷ L) = so (λ h. one-more i k n p (h .0) (h .1)) (both (ifEqual (p .from) i (atMost n k)) (inOrder i k L))
-  inOrder i k (call q (arrival n p) ∷ L) = so (λ h. one-more i k n p (h .0) (h .1)) (both (ifEqual (p .from) i (atMost n k)) (inOrder i k L))
-  inOrder i k (call q other ∷ L) = so (λ h j g was. ⊎-elim (λ never. absurd never) (h j g) was) (inOrder i k L)
-  inOrder i k (delivery n p ∷ L) = inOrder i k L
+  inOrder i k L = so (λ h j g was mine. omega (arith, h j g was mine)) (noneLater i k L)
 
   abbrev comes : (k : ℕ) (p : LineSegment) (q : ViewCall) (L : Seen) → Test (Arrival M t₀ P k p q L)
   comes k p q L =
