@@ -139,17 +139,17 @@ module _
         );
         answer-15 = (
           (λ is.
-          let t = n .is-15 .0 (sym e ∙ is) in
-          ((start, met-here (t .0)), eqb-true (ack (g .flags)) 1 (t .1), λ A m. false-true (sym (t .2) ∙ acks A m))),
+              let t = n .is-15 .0 (sym e ∙ is) in
+              ((start, met-here (t .0)), eqb-true (ack (g .flags)) 1 (t .1), λ A m. false-true (sym (t .2) ∙ acks A m))),
           (λ (somewhere, has-ack, none).
-          e ∙ n .is-15 .1 (met (somewhere .0) (somewhere .1), eq-eqb (ack (g .flags)) 1 has-ack, not-true-false y (λ t. none acked (acks-here t)))),
+              e ∙ n .is-15 .1 (met (somewhere .0) (somewhere .1), eq-eqb (ack (g .flags)) 1 has-ack, not-true-false y (λ t. none acked (acks-here t)))),
         );
         answer-0 = (
           (λ is.
-          let t = n .is-0 .0 (sym e ∙ is) in
-          ((start, met-here (t .0)), λ has-ack. (acked, acks-here (t .1 (eq-eqb (ack (g .flags)) 1 has-ack))))),
+              let t = n .is-0 .0 (sym e ∙ is) in
+              ((start, met-here (t .0)), λ has-ack. (acked, acks-here (t .1 (eq-eqb (ack (g .flags)) 1 has-ack))))),
           (λ (somewhere, acking).
-          e ∙ n .is-0 .1 (met (somewhere .0) (somewhere .1), λ has-ack. let A = acking (eqb-true (ack (g .flags)) 1 has-ack) in acks (A .0) (A .1))),
+              e ∙ n .is-0 .1 (met (somewhere .0) (somewhere .1), λ has-ack. let A = acking (eqb-true (ack (g .flags)) 1 has-ack) in acks (A .0) (A .1))),
         );
       }
 

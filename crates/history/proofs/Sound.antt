@@ -26,6 +26,7 @@ use Rattle.connection.proofs.Stages.{stageAfter≥2}
 use Rattle.connection.proofs.Sound.{soundFins-to-3, soundFins≤3, finsAfter≤3, stageAfter-sound, soundEnd-true, true-soundEnd, widened-sound, unheard-sound, lifeOf≤, Facts, sound-facts, facts-sound}
 use Rattle.history.specs.Numbers.{Numbers, onRing}
 use Rattle.history.specs.History.{LineSegment, onWire, placedBy, Formed, Placeable}
+use Rattle.history.specs.Kept.{OpenedSound, PassedSound}
 use Rattle.history.specs.Records.{SeqNumsFit, TwoEnds}
 use Rattle.history.proofs.Step.{Spans, Near, sequence-line, ackRange-small, ack-line, sent-line, granted-line, sentTo-spans, grantedTo-spans}
 use Rattle.history.proofs.Verdict.{two-sender, two-receiver}
@@ -221,7 +222,7 @@ module _ (clock : ℕ) (c : Connection) (x : ℕ → End) (ends : TwoEnds c x) (
 -- The theorems
 
 -- an opening is sound
-pub opened-sound : (side : ℕ) (g : Segment) (now : ℕ) → side ≤ 1 → Placeable g → soundConnection now (opened side g now) ≡ true
+pub opened-sound : OpenedSound
 unfolding opened soundUnanswered
 opened-sound side g now known r =
     let wire = onWire-placedBy 0 0 0 g r (inl refl) (inl refl) in
@@ -237,10 +238,7 @@ opened-sound side g now known r =
     }
 
 -- a pass of a sound connection leaves it sound, unless it frees it
-pub passed-sound :
-    (clock : ℕ) (c : Connection) (x : ℕ → End) → TwoEnds c x → soundConnection clock c ≡ true → (i : ℕ) → i < 2 → (g : Segment) →
-    Placeable g → (now : ℕ) → verdictOn c i g ≡ Pass → (rst (g .flags) ≡ 1 → ⊥) →
-    soundConnection now (passed c i g now) ≡ true
+pub passed-sound : PassedSound
 passed-sound clock c x ends sound i side g r now pass no-reset =
     let E = lifted (x i) .end in
     let E' = lifted (x (1 - i)) .end in

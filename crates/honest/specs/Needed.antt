@@ -127,7 +127,7 @@ abbrev pub ofSendings : List Need
 ofSendings =
     -- the opener "repeats only that": a SYN with another number
     need (sends syn ∷ opensAt 0 syn ∷ []) (sends (opener's SYN 1 1 0 1000 tt)) (sends syn)
-        (comes 1 0 (opener's SYN 1 1 0 1000 tt) ∷ []) 13
+    (comes 1 0 (opener's SYN 1 1 0 1000 tt) ∷ []) 13
     -- "until it receives a SYN+ACK, and never again after"
     ∷ need (handshake ++ openerAhead) (sends syn) (sends (opener's ACK 1001 0 1 1000 tt)) (comes 4 0 syn ∷ []) 14
     -- the answerer "sends SYN+ACK acknowledging the SYN's end"
@@ -147,21 +147,21 @@ ofSendings =
     }
     -- "starts at or above the highest acknowledgement its sender has received": one octet below
     ∷ need (handshake ++ openerAhead) (sends (opener's ACK 1000 0 1 1000 tt)) (sends (opener's ACK 1001 0 1 1000 tt))
-        (comes 4 0 (opener's ACK 1000 0 1 1000 tt) ∷ []) 14
+    (comes 4 0 (opener's ACK 1000 0 1 1000 tt) ∷ []) 14
     -- "ends (FIN counted) at or below the highest a + max(w, 1) received": one octet above
     ∷ need handshake (sends (opener's ACK 1 1001 1 1000 tt)) (sends (opener's ACK 1 1000 1 1000 tt))
-        (comes 2 0 (opener's ACK 1 1001 1 1000 tt) ∷ []) 14
+    (comes 2 0 (opener's ACK 1 1001 1 1000 tt) ∷ []) 14
     -- "acknowledges no less than the end of the other end's SYN"
     ∷ need synAckThrough (sends acksNothing) (sends ack) (comes 1 0 acksNothing ∷ []) 15
     -- "and no further than the highest end received": one octet further
     ∷ need handshake (sends (opener's ACK 1 0 2 1000 tt)) (sends ack) (comes 2 0 (opener's ACK 1 0 2 1000 tt) ∷ []) 15
     -- "An end's acknowledgement numbers never fall in sending order."
     ∷ need
-        (sends (opener's SYN 0 1 0 65535 tt) ∷ opensAt 0 (opener's SYN 0 1 0 65535 tt) ∷ got 0 (opener's SYN 0 1 0 65535 tt)
-        ∷ (through 0 synAck ++ (through 1 (opener's ACK 1 0 1 65535 tt)
-        ++ (through 1 (answerer's ACK 1 65495 1 1000 tt) ++ (through 2 (opener's ACK 1 0 65496 65535 tt)
-        ++ through 2 (answerer's ACK 65496 65495 1 1000 tt))))))
-        (sends (opener's ACK 1 0 1 65535 tt)) (sends (opener's ACK 1 0 65496 65535 tt)) (comes 3 0 (opener's ACK 1 0 1 65535 tt) ∷ []) 15
+    (sends (opener's SYN 0 1 0 65535 tt) ∷ opensAt 0 (opener's SYN 0 1 0 65535 tt) ∷ got 0 (opener's SYN 0 1 0 65535 tt)
+    ∷ (through 0 synAck ++ (through 1 (opener's ACK 1 0 1 65535 tt)
+    ++ (through 1 (answerer's ACK 1 65495 1 1000 tt) ++ (through 2 (opener's ACK 1 0 65496 65535 tt)
+    ++ through 2 (answerer's ACK 65496 65495 1 1000 tt))))))
+    (sends (opener's ACK 1 0 1 65535 tt)) (sends (opener's ACK 1 0 65496 65535 tt)) (comes 3 0 (opener's ACK 1 0 1 65535 tt) ∷ []) 15
     ∷ []
 
 -- What is asked of calls and deliveries
@@ -174,10 +174,10 @@ ofCalls =
     ∷ need (handshake ++ openerAhead) (comes 1 0 ack) (comes 3 0 (opener's ACK 1001 1000 1 1000 tt)) [] 14
     -- "The opening" is one: a second one, once the first has expired, and an answerer that goes on as if nothing had been
     ∷ need handshake (opensAt 432000000 syn) (forges 432000000 syn)
-        (sends (answerer's ACK 1 10 1 1000 tt) ∷ comes 1 432000000 (answerer's ACK 1 10 1 1000 tt) ∷ []) 13
+    (sends (answerer's ACK 1 10 1 1000 tt) ∷ comes 1 432000000 (answerer's ACK 1 10 1 1000 tt) ∷ []) 13
     -- "that finds no live match": it passes on an earlier connection of the same ports, by its ranges
     ∷ need (forges 0 syn ∷ forges 0 (answerer's SYN+ACK 70000 1 1 1000 tt) ∷ sends syn ∷ []) (opensAt 0 syn) (opensAt 60000 syn)
-        (got 0 syn ∷ sends synAck ∷ comes 0 0 synAck ∷ []) 14
+    (got 0 syn ∷ sends synAck ∷ comes 0 0 synAck ∷ []) 14
     -- "a call that is no arrival .. isn't passed on the opening's entry": a reset that no end has sent
     ∷ need synAckThrough (forges 0 (opener's ACK+RST 1 0 1 1000 tt)) (forges 0 (opener's ACK+RST 900000 0 1 1000 tt)) (comes 0 0 synAck ∷ []) 11
     -- "A segment is delivered only after an arrival of it .. was answered 0": one that has not arrived
