@@ -9,6 +9,7 @@ pub mod Encoded
 pub mod Keeps
 pub mod Demand1
 pub mod Demands
+pub mod Readers
 pub mod Example
 pub mod Witness
 pub mod Marked
