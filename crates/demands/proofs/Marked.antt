@@ -107,8 +107,8 @@ storable11 = record {
   key = record { from-address = (refl, omega arith); to-address = (refl, omega arith); from-port = omega arith; to-port = omega arith };
   deadline = omega arith;
   two-ends = refl;
-  opener = record { end = omega arith; edge = omega arith; win = omega arith };
-  answerer = record { end = omega arith; edge = omega arith; win = omega arith };
+  opener-fits = record { end = omega arith; edge = omega arith; win = omega arith };
+  answerer-fits = record { end = omega arith; edge = omega arith; win = omega arith };
 }
 
 sound11 : soundConnection 0 (entry11 .connection) ≡ true

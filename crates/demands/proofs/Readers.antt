@@ -56,6 +56,6 @@ pub reader-needed : ReaderNeeded
 reader-needed = (
   (λ d. false-true (sym unsound ∙ d .demand2 1 (omega arith) (omega arith) (one ∷ []) .2 .sound)),
   (λ d.
-  let same = d .demand2 1 (omega arith) (omega arith) (one ∷ []) .1 .table in
-  absurd (omega (arith, sym cut ∙ ap firstAddress same ∙ whole))),
+      let same = d .demand2 1 (omega arith) (omega arith) (one ∷ []) .1 .table in
+      absurd (omega (arith, sym cut ∙ ap firstAddress same ∙ whole))),
 )

@@ -30,6 +30,6 @@ storable-entry v now e sound small (x, ends) fits =
       key = fits;
       deadline = omega (arith, f .deadline);
       two-ends = rw (ends .two);
-      opener = rw (ends .two) (storable-end (x 0) (ends .opener) (rw (ends .two) at (f .opener)));
-      answerer = rw (ends .two) (storable-end (x 1) (ends .answerer) (rw (ends .two) at (f .answerer)));
+      opener-fits = rw (ends .two) (storable-end (x 0) (ends .opener) (rw (ends .two) at (f .opener)));
+      answerer-fits = rw (ends .two) (storable-end (x 1) (ends .answerer) (rw (ends .two) at (f .answerer)));
     }

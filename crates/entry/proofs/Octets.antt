@@ -41,8 +41,8 @@ storable-entryAt v t at octets = record {
   key = fits-flowAt v t (addressesAt at) (portsAt v at) octets;
   deadline = bigEndian<256^n 8 t (numbersAt v at) octets;
   two-ends = refl;
-  opener = storable-endAt t (numbersAt v at + 8) octets;
-  answerer = storable-endAt t (numbersAt v at + 20) octets;
+  opener-fits = storable-endAt t (numbersAt v at + 8) octets;
+  answerer-fits = storable-endAt t (numbersAt v at + 20) octets;
 }
 
 -- Stored

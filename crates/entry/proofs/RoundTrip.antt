@@ -88,8 +88,8 @@ entry-back v e storable =
     let from = endpoint-back v (k .from) (storable .key .from-address) (storable .key .from-port) in
     let to = endpoint-back v (k .to) (storable .key .to-address) (storable .key .to-port) in
     let deadline = bigEndian-octetsOf 8 (c .deadline) (storable .deadline) in
-    let opener = end-back (sender (c .ends) 0) (storable .opener) in
-    let answerer = end-back (sender (c .ends) 1) (storable .answerer) in
+    let opener = end-back (sender (c .ends) 0) (storable .opener-fits) in
+    let answerer = end-back (sender (c .ends) 1) (storable .answerer-fits) in
     let ends : endAgain (sender (c .ends) 0) ∷ endAgain (sender (c .ends) 1) ∷ [] ≡ c .ends =
     (λ i. opener i ∷ answerer i ∷ []) ∙ two-elements (c .ends) (storable .two-ends) in
     λ i. record {

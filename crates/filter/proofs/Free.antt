@@ -48,6 +48,6 @@ storable-free v = record {
   key = free-flow v;
   deadline = omega arith;
   two-ends = refl;
-  opener = record { end = omega arith; edge = omega arith; win = omega arith };
-  answerer = record { end = omega arith; edge = omega arith; win = omega arith };
+  opener-fits = record { end = omega arith; edge = omega arith; win = omega arith };
+  answerer-fits = record { end = omega arith; edge = omega arith; win = omega arith };
 }

@@ -4,6 +4,7 @@ use Prim.Native.Nat.{ℕ, _-_, _^_}
 use mathlib.Core.Path.{_≡_}
 use mathlib.Core.List.{List, [], _∷_, _++_, reverse}
 use Rattle.segment.specs.Flags.{SYN, SYN+ACK, ACK, ACK+RST}
+use Rattle.connection.specs.Ends.{opener, answerer}
 use Rattle.rows.specs.Rows.{View}
 use Rattle.rows.specs.Connections.{connections}
 use Rattle.rows.specs.Examples.{outward}
@@ -109,17 +110,17 @@ abbrev zeroPair : Pair
 zeroPair = record { side = 0; key = outward; start = λ i. 0 }
 
 abbrev zeroSyn : Piece
-zeroSyn = record { line = record { from = 0; flags = SYN; start = 0; length = 1; acked = 0; window = 1000 }; formed = tt }
+zeroSyn = record { line = record { from = opener; flags = SYN; start = 0; length = 1; acked = 0; window = 1000 }; formed = tt }
 
 abbrev zeroSynAck : Piece
-zeroSynAck = record { line = record { from = 1; flags = SYN+ACK; start = 0; length = 1; acked = 1; window = 1000 }; formed = tt }
+zeroSynAck = record { line = record { from = answerer; flags = SYN+ACK; start = 0; length = 1; acked = 1; window = 1000 }; formed = tt }
 
 abbrev zeroAck : Piece
-zeroAck = record { line = record { from = 1; flags = ACK; start = 0; length = 0; acked = 1; window = 1000 }; formed = tt }
+zeroAck = record { line = record { from = answerer; flags = ACK; start = 0; length = 0; acked = 1; window = 1000 }; formed = tt }
 
 -- an opener's first ACK that acknowledges 0
 abbrev acksNothing : Piece
-acksNothing = record { line = record { from = 0; flags = ACK; start = 2 ^ 32 - 2; length = 0; acked = 0; window = 1000 }; formed = tt }
+acksNothing = record { line = record { from = opener; flags = ACK; start = 2 ^ 32 - 2; length = 0; acked = 0; window = 1000 }; formed = tt }
 
 -- What an end may send
 

@@ -15,7 +15,7 @@ use Rattle.choice.proofs.Tests.{true-or-false, lt-or-ge}
 use Rattle.octets.proofs.Overwrite.{length-overwrite, take-overwrite-end}
 use Rattle.report.specs.Text.{resultText, totalText}
 use Rattle.report.proofs.Text.{length-totalText≤52}
-use Rattle.replay.specs.Printed.{newline, linesFrom, linesOf, resultOf, Run, passes, afterLine, afterLines, printed}
+use Rattle.replay.specs.Printed.{newline, linesFrom, linesOf, resultOf, Run, passCount, afterLine, afterLines, printed}
 use Rattle.replay.specs.Feed.{Memory, memory, withByte, withLine, afterPiece, atEnd, withTotal}
 use Rattle.replay.specs.Written.{atStart, lineRoom, resultRoom, totalRoom, toWrite, emptied, written, joined, HasRoom, WritesPrinted, programTable, PiecesUpTo, ProgramWritesPrinted}
 use Rattle.replay.specs.declared.Progress.{Progress}
@@ -284,7 +284,7 @@ unfolding afterLines afterLine
 counts-lines r [] = (omega arith, omega arith)
 counts-lines r (line ∷ lines) =
     let h = counts-lines (afterLine r line) lines in
-    let one : passes (resultOf line (r .table) .answer) ≤ 1 = if-either (λ k. k ≤ 1) _ 1 0 (omega arith) (omega arith) in
+    let one : passCount (resultOf line (r .table) .answer) ≤ 1 = if-either (λ k. k ≤ 1) _ 1 0 (omega arith) (omega arith) in
     (omega (arith, h .0), omega (arith, h .1))
 
 -- a run starts beside the memory at the start, and stays beside it

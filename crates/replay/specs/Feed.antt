@@ -6,7 +6,7 @@ use Rattle.choice.specs.Choice.{if_then_else_, _<ᵇ_, _=ᵇ_}
 use Rattle.octets.specs.Overwrite.{overwrite}
 use Rattle.report.specs.Text.{resultText, totalText}
 use Rattle.report.specs.declared.Shown.{Shown}
-use Rattle.replay.specs.Printed.{newline, Result, resultOf, passes}
+use Rattle.replay.specs.Printed.{newline, Result, resultOf, passCount}
 use Rattle.replay.specs.declared.Progress.{Progress}
 
 -- the table, a buffer for the line that has not ended yet, the output, and how far each is
@@ -36,7 +36,7 @@ withByte m b =
 -- totals are kept modulo 2^64
 abbrev pub withAnswer : Progress → ℕ → Shown → Progress
 withAnswer p answer shown =
-    record { kept = 0; used = p .used + length (resultText answer shown); passed = (p .passed + passes answer) % 2 ^ 64; lines = (p .lines + 1) % 2 ^ 64 }
+    record { kept = 0; used = p .used + length (resultText answer shown); passed = (p .passed + passCount answer) % 2 ^ 64; lines = (p .lines + 1) % 2 ^ 64 }
 
 abbrev pub withResult : Memory → Result → Memory
 withResult m s =

@@ -68,13 +68,13 @@ pub record Run : Type 0 where
   pub lines : ℕ
 
 -- what a line adds to the answers 0
-abbrev pub passes : ℕ → ℕ
-passes answer = if answer =ᵇ 0 then 1 else 0
+abbrev pub passCount : ℕ → ℕ
+passCount answer = if answer =ᵇ 0 then 1 else 0
 
 unfoldable pub afterLine : Run → List ℕ → Run
 afterLine r line =
     let s = resultOf line (r .table) in
-    record { table = s .table; text = r .text ++ resultText (s .answer) (s .shown); passed = r .passed + passes (s .answer); lines = r .lines + 1 }
+    record { table = s .table; text = r .text ++ resultText (s .answer) (s .shown); passed = r .passed + passCount (s .answer); lines = r .lines + 1 }
 
 unfoldable pub afterLines : Run → List (List ℕ) → Run
 afterLines r [] = r

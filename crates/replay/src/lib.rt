@@ -4,7 +4,7 @@ ghost use mathlib.Core.Path.{_≡_};
 ghost use lib.ListN.{length, drop, getD};
 ghost use Rattle.octets.specs.Overwrite.{overwrite};
 ghost use Rattle.report.specs.Text.{resultText};
-ghost use Rattle.replay.specs.Printed.{resultOf, passes};
+ghost use Rattle.replay.specs.Printed.{resultOf, passCount};
 ghost use Rattle.replay.specs.Feed.{memory, withUsed, withAnswer, withLine, afterPiece, atEnd, withTotal, beforeNewline, fitting};
 ghost use Rattle.replay.specs.Written.{atStart, lineRoom, resultRoom, totalRoom};
 use octets::least;
@@ -157,7 +157,7 @@ fn answer_line(text: &[u8], packet: &mut Packet, table: &mut [u8]) -> Answered
 
 // What an answer adds to the answers 0.
 fn pass_count(answer: u32) -> u64
-    ensures { λ r. ⌜ r ≡ passes answer ⌝ }
+    ensures { λ r. ⌜ r ≡ passCount answer ⌝ }
 {
     if answer == 0 { 1 } else { 0 }
 }
