@@ -32,7 +32,7 @@ extern "C" {
  *    1  side is not 0 or 1
  *    2  clock is 2^48 ms or more
  *    3  table_len is not QB_TABLE_LENGTH(n) with n from 1 to 512
- *    4  the table is unsound: its clock, an entry or a byte that has to be zero is not as document 01 has it (no call leaves it so)
+ *    4  the table is unsound: its clock, an entry or a byte that has to be zero is not as docs/RULES.md, "The table", has it (no call makes it so)
  *    5  it is not IPv4, its header is not whole, or its lengths do not fit the bytes given
  *    6  the IPv4 header's checksum is wrong
  *    7  it is a fragment
