@@ -14,7 +14,9 @@ use Rattle.history.specs.Records.{TwoEnds}
 
 -- an opening is sound
 abbrev pub OpenedSound : Type 0
-OpenedSound = (side : ℕ) (g : Segment) (now : ℕ) → side ≤ 1 → Placeable g → soundConnection now (opened side g now) ≡ true
+OpenedSound =
+    (side : ℕ) (g : Segment) (now : ℕ) → side ≤ 1 → Placeable g →
+    soundConnection now (opened side g now) ≡ true
 
 -- a pass of a sound connection leaves it sound, by the clock used; a reset frees it (`passed`)
 abbrev pub PassedSound : Type 0

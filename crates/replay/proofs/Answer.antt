@@ -13,7 +13,7 @@ use Rattle.choice.proofs.Tests.{lt-or-ge}
 use Rattle.octets.specs.Overwrite.{overwrite}
 use Rattle.octets.proofs.Digits.{length-tabulate}
 use Rattle.octets.proofs.Overwrite.{overwrite-there}
-use Rattle.trace.specs.Line.{packetLength, packetOf}
+use Rattle.trace.specs.Line.{packetLength, linePacket}
 use Rattle.trace.specs.Read.{readLine, packetAfter, packetAfterReading, readAnswer}
 use Rattle.trace.specs.declared.LineRead.{LineRead}
 use Rattle.trace.specs.declared.LineRead.the-variants.{TooLong, Malformed, NoRoom, Frame}
@@ -58,12 +58,12 @@ readLine-bounded line =
 -- what the filter is shown: the packet of the line
 pub frame-packet :
     (line packet : List ℕ) (side clock n : ℕ) → readLine line room ≡ Frame side clock n → length packet ≡ room →
-    (n ≤ room) × (take n (drop 0 (packetAfterReading line packet)) ≡ packetOf line)
-unfolding packetAfter packetOf
+    (n ≤ room) × (take n (drop 0 (packetAfterReading line packet)) ≡ linePacket line)
+unfolding packetAfter linePacket
 frame-packet line packet side clock n frame size =
     let bounds : (n ≡ packetLength line) × (n ≤ room) = rw frame at (readLine-bounded line) in
-    let count : length (packetOf line) ≡ n = length-tabulate _ _ ∙ sym (bounds .0) in
-    (bounds .1, rw (size, frame, ← count) (overwrite-there packet 0 (packetOf line) (omega arith)))
+    let count : length (linePacket line) ≡ n = length-tabulate _ _ ∙ sym (bounds .0) in
+    (bounds .1, rw (size, frame, ← count) (overwrite-there packet 0 (linePacket line) (omega arith)))
 
 -- The result
 
@@ -75,7 +75,7 @@ resultOf-read line t read e = ap (λ r. ofRead r line t) (sym e)
 -- the filter's answer to the packet of a line
 pub resultOf-frame :
     (line t packet after : List ℕ) (side clock n : ℕ) (reply : Reply) (shown : Shown) → Frame side clock n ≡ readLine line room →
-    packet ≡ packetOf line →
+    packet ≡ linePacket line →
     (reply ≡ replyOf (ipv4Outcome side clock t packet)) × (after ≡ tableAfter V4 t (ipv4Outcome side clock t packet)) →
     shown ≡ shownPlace (reply .place) →
     _≡_ {A = Result} (record { answer = reply .answer; shown = shown; table = after }) (resultOf line t)
@@ -88,7 +88,7 @@ unfolding readAnswer
 read-never-23 line t TooLong b e = omega arith
 read-never-23 line t (Malformed offset) b e = omega arith
 read-never-23 line t NoRoom b e = b
-read-never-23 line t (Frame side clock n) b e = omega (arith, reply-small V4 side clock t (readIPv4 (packetOf line)) .0)
+read-never-23 line t (Frame side clock n) b e = omega (arith, reply-small V4 side clock t (readIPv4 (linePacket line)) .0)
 
 pub never-23 : Never23
 unfolding resultOf
@@ -135,7 +135,7 @@ unfolding readAnswer
 read-short line t TooLong b = dash-short t 21 (omega arith)
 read-short line t (Malformed offset) b = number-short t 22 offset (omega arith) (omega arith)
 read-short line t NoRoom b = absurd b
-read-short line t (Frame side clock n) b = call-short t (ipv4Outcome side clock t (packetOf line)) (outcome-within V4 side clock t (readIPv4 (packetOf line)))
+read-short line t (Frame side clock n) b = call-short t (ipv4Outcome side clock t (linePacket line)) (outcome-within V4 side clock t (readIPv4 (linePacket line)))
 
 -- so it is for every line
 pub result-short : (line t : List ℕ) → length (resultText (resultOf line t .answer) (resultOf line t .shown)) ≤ resultRoom

@@ -4,7 +4,7 @@ use mathlib.Core.Path.{_≡_}
 use mathlib.Core.List.{List, [], _∷_, _++_}
 use lib.ListN.{length}
 use Rattle.choice.specs.Choice.{if_then_else_, _=ᵇ_}
-use Rattle.trace.specs.Line.{packetOf}
+use Rattle.trace.specs.Line.{linePacket}
 use Rattle.trace.specs.Read.{readLine, readAnswer}
 use Rattle.trace.specs.declared.LineRead.{LineRead}
 use Rattle.trace.specs.declared.LineRead.the-variants.{TooLong, Malformed, NoRoom, Frame}
@@ -49,7 +49,7 @@ abbrev pub ofRead : LineRead → List ℕ → List ℕ → Result
 ofRead TooLong line t = record { answer = readAnswer TooLong .number; shown = Dash; table = t }
 ofRead (Malformed offset) line t = record { answer = readAnswer (Malformed offset) .number; shown = Number offset; table = t }
 ofRead NoRoom line t = record { answer = readAnswer NoRoom .number; shown = Dash; table = t }
-ofRead (Frame side clock n) line t = ofCall t (ipv4Outcome side clock t (packetOf line))
+ofRead (Frame side clock n) line t = ofCall t (ipv4Outcome side clock t (linePacket line))
 
 unfoldable pub resultOf : List ℕ → List ℕ → Result
 resultOf line t = ofRead (readLine line room) line t

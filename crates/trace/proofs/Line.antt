@@ -16,7 +16,7 @@ use Rattle.octets.specs.Octets.{Octets}
 use Rattle.octets.specs.Digits.{digits}
 use Rattle.octets.proofs.Digits.{length-tabulate, tabulate-cong, tabulate-getD}
 use Rattle.trace.specs.Hex.{isHex, hexDigit, hexNumber, hexDigits, hexPairs}
-use Rattle.trace.specs.Line.{mayStand, LegalLine, LegalValues, sideOf, clockOf, packetLength, packetOf, lineOf}
+use Rattle.trace.specs.Line.{mayStand, LegalLine, LegalValues, lineSide, lineClock, packetLength, linePacket, lineOf}
 use Rattle.trace.proofs.Each.{Each, each-none, each-one, each-append, each-tabulate, each-getD}
 use Rattle.trace.proofs.Hex.{isHex-hexDigit, length-hexDigits, hexDigits-suc, hexNumber-hexDigits, hexNumber<16^n, hexDigits-hexNumber, length-hexPairs, hexPairs-drop, drop-hexPairs, hexPairs-tabulate}
 
@@ -78,13 +78,13 @@ module _ (side clock : ℕ) (packet : List ℕ) where
   length-lineOf =
       simp (length-append, length-hexDigits, length-hexPairs) (omega arith)
 
-  pub sideOf-lineOf : sideOf (lineOf side clock packet) ≡ side
-  unfolding sideOf lineOf
-  sideOf-lineOf = omega arith
+  pub lineSide-lineOf : lineSide (lineOf side clock packet) ≡ side
+  unfolding lineSide lineOf
+  lineSide-lineOf = omega arith
 
-  pub clockOf-lineOf : clock < 2 ^ 48 → clockOf (lineOf side clock packet) ≡ clock
-  unfolding clockOf lineOf
-  clockOf-lineOf fits =
+  pub lineClock-lineOf : clock < 2 ^ 48 → lineClock (lineOf side clock packet) ≡ clock
+  unfolding lineClock lineOf
+  lineClock-lineOf fits =
       hexNumber-hexDigits 12 clock (lineOf side clock packet) 2 fits
       (take-at (hexDigits 12 clock) (32 ∷ hexPairs packet) 12 (length-hexDigits 12 clock))
 
@@ -103,9 +103,9 @@ module _ (side clock : ℕ) (packet : List ℕ) where
       rw (← drop-drop (2 * i) 15 (lineOf side clock packet), drop-15-lineOf, drop-hexPairs packet i (omega arith), hexPairs-drop packet i h)
       (take-at (hexDigits 2 (getD packet i 0)) (hexPairs (drop (i + 1) packet)) 2 (length-hexDigits 2 (getD packet i 0)))
 
-  pub packetOf-lineOf : Octets packet → packetOf (lineOf side clock packet) ≡ packet
-  unfolding packetOf
-  packetOf-lineOf each =
+  pub linePacket-lineOf : Octets packet → linePacket (lineOf side clock packet) ≡ packet
+  unfolding linePacket
+  linePacket-lineOf each =
       rw packetLength-lineOf
       (tabulate-cong (λ i. hexNumber (lineOf side clock packet) (15 + 2 * i) 2) (λ i. getD packet (0 + i) 0) (length packet)
       (λ i h. rw zero-add (hexNumber-hexDigits 2 (getD packet i 0) (lineOf side clock packet) (15 + 2 * i) (each i) (pair-lineOf i h)))
@@ -143,8 +143,8 @@ fields l h =
     ∙ ap (λ (k : List ℕ). take 12 (drop 2 l) ++ k) (drop-drop 12 2 l ∙ drop-cons l 14 0 (omega arith))))
 
 module _ (l : List ℕ) (n : ℕ) (legal : LegalLine l n) where
-  pub sideOf-legal : (48 ≤ getD l 0 0) × (getD l 0 0 ≤ 49)
-  sideOf-legal = stands-side (getD l 0 0) (legal .each 0 (omega arith))
+  pub lineSide-legal : (48 ≤ getD l 0 0) × (getD l 0 0 ≤ 49)
+  lineSide-legal = stands-side (getD l 0 0) (legal .each 0 (omega arith))
 
   space : (i : ℕ) → i < length l → (i ≡ 1) ⊎ (i ≡ 14) → getD l i 0 ≡ 32
   space i inside here = eqb-true (getD l i 0) 32 (sym (mayStand-space i (getD l i 0) here) ∙ legal .each i inside)
@@ -152,17 +152,17 @@ module _ (l : List ℕ) (n : ℕ) (legal : LegalLine l n) where
   hex : (i : ℕ) → i < length l → 2 ≤ i → (i ≡ 14 → ⊥) → isHex (getD l i 0) ≡ true
   hex i inside past other = sym (mayStand-hex i (getD l i 0) past other) ∙ legal .each i inside
 
-  clock-legal : hexDigits 12 (clockOf l) ≡ take 12 (drop 2 l)
-  unfolding clockOf
+  clock-legal : hexDigits 12 (lineClock l) ≡ take 12 (drop 2 l)
+  unfolding lineClock
   clock-legal = hexDigits-hexNumber l 2 12 (omega arith) (λ i h. hex (2 + i) (omega arith) (omega arith) (λ e. omega arith))
 
   pub packetLength-legal : packetLength l ≡ n
   unfolding packetLength
   packetLength-legal = rw (legal .whole) (omega arith)
 
-  pub length-packetOf : length (packetOf l) ≡ n
-  unfolding packetOf
-  length-packetOf = length-tabulate (λ i. hexNumber l (15 + 2 * i) 2) (packetLength l) ∙ packetLength-legal
+  pub length-linePacket : length (linePacket l) ≡ n
+  unfolding linePacket
+  length-linePacket = length-tabulate (λ i. hexNumber l (15 + 2 * i) 2) (packetLength l) ∙ packetLength-legal
 
   pair-legal : (i : ℕ) → i < n → hexDigits 2 (hexNumber l (15 + 2 * i) 2) ≡ take 2 (drop (2 * i) (drop 15 l))
   pair-legal i h =
@@ -170,31 +170,31 @@ module _ (l : List ℕ) (n : ℕ) (legal : LegalLine l n) where
       (hexDigits-hexNumber l (15 + 2 * i) 2 (omega (arith, legal .whole))
       (λ j g. hex (15 + 2 * i + j) (omega (arith, legal .whole)) (omega arith) (λ e. omega arith)))
 
-  packet-legal : hexPairs (packetOf l) ≡ drop 15 l
-  unfolding packetOf
+  packet-legal : hexPairs (linePacket l) ≡ drop 15 l
+  unfolding linePacket
   packet-legal =
       rw packetLength-legal
       (hexPairs-tabulate (λ i. hexNumber l (15 + 2 * i) 2) (drop 15 l) n pair-legal
       ∙ take-all (2 * n) (drop 15 l) (simp length-drop (omega (arith, legal .whole))))
 
   -- written again, it is the same line
-  pub lineOf-legal-line : lineOf (sideOf l) (clockOf l) (packetOf l) ≡ l
-  unfolding lineOf sideOf
+  pub lineOf-legal-line : lineOf (lineSide l) (lineClock l) (linePacket l) ≡ l
+  unfolding lineOf lineSide
   lineOf-legal-line =
-      let side : 48 + (getD l 0 0 - 48) ≡ getD l 0 0 = omega (arith, sideOf-legal) in
+      let side : 48 + (getD l 0 0 - 48) ≡ getD l 0 0 = omega (arith, lineSide-legal) in
       let spaced = rw (space 1 (omega arith) (inl refl), space 14 (omega arith) (inr refl)) at (fields l (omega arith)) in
       rw (side, clock-legal, packet-legal) (sym spaced)
 
-  pub legal-line-values : LegalValues (sideOf l) (clockOf l) (packetOf l)
-  unfolding sideOf clockOf packetOf
+  pub legal-line-values : LegalValues (lineSide l) (lineClock l) (linePacket l)
+  unfolding lineSide lineClock linePacket
   legal-line-values =
       record {
-        side-known = omega (arith, sideOf-legal);
+        side-known = omega (arith, lineSide-legal);
         clock-fits = hexNumber<16^n l 2 12;
-        some = rw length-packetOf (legal .some);
-        most = rw length-packetOf (legal .most);
+        some = rw length-linePacket (legal .some);
+        most = rw length-linePacket (legal .most);
         each =
-            each-getD (λ b. b < 256) (packetOf l)
+            each-getD (λ b. b < 256) (linePacket l)
             (each-tabulate (λ i b. b < 256) (λ i. hexNumber l (15 + 2 * i) 2) (packetLength l) (λ i h. hexNumber<16^n l (15 + 2 * i) 2))
             (omega arith);
       }

@@ -11,7 +11,7 @@ use Rattle.choice.specs.Choice.{if_then_else_, _≤ᵇ_, _=ᵇ_}
 use Rattle.choice.proofs.Choice.{if-true, if-false}
 use Rattle.choice.proofs.Tests.{lt-or-ge, false-true, &&-true}
 use Rattle.trace.specs.Hex.{isHex}
-use Rattle.trace.specs.Line.{mayStand, LegalLine, sideOf, clockOf, packetLength}
+use Rattle.trace.specs.Line.{mayStand, LegalLine, lineSide, lineClock, packetLength}
 use Rattle.trace.specs.Read.{illegalFrom, firstIllegal, HexFrom, wellFormed, readLine}
 use Rattle.trace.specs.declared.LineRead.the-variants.{TooLong, Malformed, NoRoom, Frame}
 use Rattle.trace.proofs.Line.{packetLength-legal}
@@ -169,12 +169,12 @@ module _ (l : List ℕ) (room : ℕ) where
 
   pub readLine-frame :
       length l ≤ 4111 → wellFormed l ≡ true → packetLength l ≤ room →
-      readLine l room ≡ Frame (sideOf l) (clockOf l) (packetLength l)
+      readLine l room ≡ Frame (lineSide l) (lineClock l) (packetLength l)
   unfolding readLine
   readLine-frame h e fits =
       if-false _ _ _ (le-ltb 4111 (length l) h) ∙ if-false _ _ _ (rw e) ∙ if-false _ _ _ (le-ltb room (packetLength l) fits)
 
-pub readLine-legal : (l : List ℕ) (n room : ℕ) → LegalLine l n → n ≤ room → readLine l room ≡ Frame (sideOf l) (clockOf l) n
+pub readLine-legal : (l : List ℕ) (n room : ℕ) → LegalLine l n → n ≤ room → readLine l room ≡ Frame (lineSide l) (lineClock l) n
 readLine-legal l n room legal fits =
     rw (packetLength-legal l n legal) at
     (readLine-frame l room (omega arith) (legal-wellFormed l n legal) (rw (packetLength-legal l n legal) fits))

@@ -5,11 +5,11 @@ use mathlib.Core.List.{List}
 use native.Mathlib.Omega.{arith}
 use lib.ListN.{length}
 use Rattle.octets.proofs.Overwrite.{overwrite-there}
-use Rattle.trace.specs.Line.{LegalLine, LegalValues, sideOf, clockOf, packetOf, lineOf}
+use Rattle.trace.specs.Line.{LegalLine, LegalValues, lineSide, lineClock, linePacket, lineOf}
 use Rattle.trace.specs.Read.{packetAfter}
 use Rattle.trace.specs.Write.{lineAfter}
 use Rattle.trace.specs.RoundTrip.{charactersWritten, bytesRead, ReadingUndoesWriting, WritingUndoesReading}
-use Rattle.trace.proofs.Line.{length-lineOf, sideOf-lineOf, clockOf-lineOf, packetOf-lineOf, lineOf-legal, length-packetOf, lineOf-legal-line, legal-line-values}
+use Rattle.trace.proofs.Line.{length-lineOf, lineSide-lineOf, lineClock-lineOf, linePacket-lineOf, lineOf-legal, length-linePacket, lineOf-legal-line, legal-line-values}
 use Rattle.trace.proofs.Read.{readLine-legal}
 use Rattle.trace.proofs.Write.{writeLine-legal}
 
@@ -24,11 +24,11 @@ charactersWritten-legal side clock packet line legal room =
     rw (writeLine-legal side clock packet (length line) legal room)
     (rw size at (overwrite-there line 0 (lineOf side clock packet) (rw size (omega arith))))
 
-bytesRead-legal : (l : List ℕ) (n : ℕ) (out : List ℕ) → LegalLine l n → n ≤ length out → bytesRead n l out ≡ packetOf l
+bytesRead-legal : (l : List ℕ) (n : ℕ) (out : List ℕ) → LegalLine l n → n ≤ length out → bytesRead n l out ≡ linePacket l
 unfolding packetAfter
 bytesRead-legal l n out legal fits =
-    let size = length-packetOf l n legal in
-    rw (readLine-legal l n (length out) legal fits) (rw size at (overwrite-there out 0 (packetOf l) (rw size (omega arith))))
+    let size = length-linePacket l n legal in
+    rw (readLine-legal l n (length out) legal fits) (rw size at (overwrite-there out 0 (linePacket l) (rw size (omega arith))))
 
 -- The theorems
 
@@ -41,24 +41,24 @@ read-written side clock packet line out legal room fits =
       written = writeLine-legal side clock packet (length line) legal room;
       frame =
           rw stands
-          (rw (sideOf-lineOf side clock packet, clockOf-lineOf side clock packet (legal .clock-fits)) at
+          (rw (lineSide-lineOf side clock packet, lineClock-lineOf side clock packet (legal .clock-fits)) at
           (readLine-legal (lineOf side clock packet) (length packet) (length out) lined fits));
       bytes =
-          rw stands (bytesRead-legal (lineOf side clock packet) (length packet) out lined fits ∙ packetOf-lineOf side clock packet (legal .each));
+          rw stands (bytesRead-legal (lineOf side clock packet) (length packet) out lined fits ∙ linePacket-lineOf side clock packet (legal .each));
     }
 
 -- what is read is written back
 pub write-read : WritingUndoesReading
 write-read l n out line legal fits room =
     let said = legal-line-values l n legal in
-    let size : 15 + 2 * length (packetOf l) ≡ length l = rw (length-packetOf l n legal) (sym (legal .whole)) in
+    let size : 15 + 2 * length (linePacket l) ≡ length l = rw (length-linePacket l n legal) (sym (legal .whole)) in
     let stands = bytesRead-legal l n out legal fits in
     record {
       frame = readLine-legal l n (length out) legal fits;
       written =
-          rw stands (rw size at (writeLine-legal (sideOf l) (clockOf l) (packetOf l) (length line) said (rw size room)));
+          rw stands (rw size at (writeLine-legal (lineSide l) (lineClock l) (linePacket l) (length line) said (rw size room)));
       characters =
           rw stands
-          (rw size at (charactersWritten-legal (sideOf l) (clockOf l) (packetOf l) line said (rw size room))
+          (rw size at (charactersWritten-legal (lineSide l) (lineClock l) (linePacket l) line said (rw size room))
           ∙ lineOf-legal-line l n legal);
     }

@@ -36,17 +36,17 @@ pub record LegalValues (side clock : ℕ) (packet : List ℕ) : Type 0 where
 
 -- The fields of a line
 
-unfoldable pub sideOf : List ℕ → ℕ
-sideOf l = getD l 0 0 - 48
+unfoldable pub lineSide : List ℕ → ℕ
+lineSide l = getD l 0 0 - 48
 
-unfoldable pub clockOf : List ℕ → ℕ
-clockOf l = hexNumber l 2 12
+unfoldable pub lineClock : List ℕ → ℕ
+lineClock l = hexNumber l 2 12
 
 unfoldable pub packetLength : List ℕ → ℕ
 packetLength l = (length l - 15) / 2
 
-unfoldable pub packetOf : List ℕ → List ℕ
-packetOf l = tabulate (λ i. hexNumber l (15 + 2 * i) 2) (packetLength l)
+unfoldable pub linePacket : List ℕ → List ℕ
+linePacket l = tabulate (λ i. hexNumber l (15 + 2 * i) 2) (packetLength l)
 
 -- the line that says them
 unfoldable pub lineOf : ℕ → ℕ → List ℕ → List ℕ

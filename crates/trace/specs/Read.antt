@@ -7,7 +7,7 @@ use lib.ListN.{length, getD}
 use Rattle.choice.specs.Choice.{if_then_else_, _<ᵇ_, _≤ᵇ_, _=ᵇ_}
 use Rattle.octets.specs.Overwrite.{overwrite}
 use Rattle.trace.specs.Hex.{isHex}
-use Rattle.trace.specs.Line.{mayStand, sideOf, clockOf, packetLength, packetOf}
+use Rattle.trace.specs.Line.{mayStand, lineSide, lineClock, packetLength, linePacket}
 use Rattle.trace.specs.declared.LineRead.{LineRead}
 use Rattle.trace.specs.declared.LineRead.the-variants.{TooLong, Malformed, NoRoom, Frame}
 use Rattle.trace.specs.declared.ReadAnswer.{ReadAnswer}
@@ -35,14 +35,14 @@ readLine l room =
     if 4111 <ᵇ length l then TooLong
     else if not (wellFormed l) then Malformed (firstIllegal l)
     else if room <ᵇ packetLength l then NoRoom
-    else Frame (sideOf l) (clockOf l) (packetLength l)
+    else Frame (lineSide l) (lineClock l) (packetLength l)
 
 -- what the output holds after that answer: the packet and, past it, what it held before; on a refusal all as it was
 unfoldable pub packetAfter : LineRead → List ℕ → List ℕ → List ℕ
 packetAfter TooLong l out = out
 packetAfter (Malformed offset) l out = out
 packetAfter NoRoom l out = out
-packetAfter (Frame side clock n) l out = overwrite out 0 (packetOf l)
+packetAfter (Frame side clock n) l out = overwrite out 0 (linePacket l)
 
 -- what `packet` holds after `line` was read to it
 abbrev pub packetAfterReading : List ℕ → List ℕ → List ℕ

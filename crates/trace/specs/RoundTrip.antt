@@ -3,7 +3,7 @@ use Prim.Native.Nat.{ℕ, _+_, _*_, _≤_}
 use mathlib.Core.Path.{_≡_}
 use mathlib.Core.List.{List}
 use lib.ListN.{length, take}
-use Rattle.trace.specs.Line.{LegalLine, LegalValues, sideOf, clockOf}
+use Rattle.trace.specs.Line.{LegalLine, LegalValues, lineSide, lineClock}
 use Rattle.trace.specs.Read.{readLine, packetAfterReading}
 use Rattle.trace.specs.Write.{writeLine, lineAfterWriting}
 use Rattle.trace.specs.declared.LineRead.the-variants.{Frame}
@@ -25,9 +25,9 @@ pub record ReadWritten (side clock : ℕ) (packet line out : List ℕ) : Type 0 
 
 -- the line l is read to `out`, and the n packet bytes that then stand there are written to `line`: the line is what is written
 pub record WriteRead (l : List ℕ) (n : ℕ) (out line : List ℕ) : Type 0 where
-  pub frame : readLine l (length out) ≡ Frame (sideOf l) (clockOf l) n
-  pub written : writeLine (sideOf l) (clockOf l) (length (bytesRead n l out)) (length line) ≡ Written (length l)
-  pub characters : charactersWritten (length l) (sideOf l) (clockOf l) (bytesRead n l out) line ≡ l
+  pub frame : readLine l (length out) ≡ Frame (lineSide l) (lineClock l) n
+  pub written : writeLine (lineSide l) (lineClock l) (length (bytesRead n l out)) (length line) ≡ Written (length l)
+  pub characters : charactersWritten (length l) (lineSide l) (lineClock l) (bytesRead n l out) line ≡ l
 
 -- for legal values with room, reading what was written gives the same side, clock and packet
 abbrev pub ReadingUndoesWriting : Type 0

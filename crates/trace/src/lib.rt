@@ -5,7 +5,7 @@ ghost use Prim.Native.Nat.{_+_, _*_, _^_, _≤_, _<_, max};
 ghost use lib.ListN.{length};
 ghost use Rattle.octets.specs.Overwrite.{overwrite};
 ghost use Rattle.trace.specs.Hex.{isHex, hexValue, hexDigit, hexNumber, hexDigits, hexPairs};
-ghost use Rattle.trace.specs.Line.{mayStand, packetLength, packetOf, lineOf};
+ghost use Rattle.trace.specs.Line.{mayStand, packetLength, linePacket, lineOf};
 ghost use Rattle.trace.specs.Read.{illegalFrom, firstIllegal, HexFrom, readLine, packetAfterReading, readAnswer, reading};
 ghost use Rattle.trace.specs.Write.{writeLine, lineAfterWriting, writeAnswer, writing};
 use octets::least;
@@ -227,7 +227,7 @@ fn hex_number(line: &[u8], at: usize, n: usize) -> u64
 // The n packet bytes of a line.
 fn read_packet(line: &[u8], n: usize, packet: &mut [u8])
     requires { ⌜ (15 + 2 * n ≤ length (now line)) × (n ≡ packetLength (now line)) × (n ≤ length (now packet)) ⌝ }
-    ensures { λ r. ⌜ now (packet .exit) ≡ overwrite (now (packet .entry)) 0 (packetOf (now (line .entry))) ⌝ }
+    ensures { λ r. ⌜ now (packet .exit) ≡ overwrite (now (packet .entry)) 0 (linePacket (now (line .entry))) ⌝ }
 {
     let mut i = 0;
     while i < n {

@@ -4,7 +4,7 @@ use mathlib.Core.Path.{_≡_, sym, ap, _∙_}
 use native.Mathlib.Omega.{arith}
 use native.Mathlib.Nat.{sub-zero}
 use lib.ListN.{length, take, drop}
-use Rattle.trace.specs.Line.{packetOf}
+use Rattle.trace.specs.Line.{linePacket}
 use Rattle.trace.specs.Read.{readLine, readAnswer}
 use Rattle.replay.specs.Printed.{room}
 use Rattle.replay.proofs.Answer.{resultOf-read, resultOf-frame, frame-packet}
@@ -22,7 +22,7 @@ read-as c = c .read-line .ensures .0 ∙ ap (readLine (c .before .before .before
 -- what the filter is shown is the line's packet
 framed :
     (c : tie.After-read2) →
-    (c .read2 .given .0 .1 .1 .0 ≤ room) × (take (c .read2 .given .0 .1 .1 .0 - 0) (drop 0 (c .before .before .read-line .last .1 .0)) ≡ packetOf (c .before .before .before .before .before .before .args .text .now))
+    (c .read2 .given .0 .1 .1 .0 ≤ room) × (take (c .read2 .given .0 .1 .1 .0 - 0) (drop 0 (c .before .before .read-line .last .1 .0)) ≡ linePacket (c .before .before .before .before .before .before .args .text .now))
 framed c =
     let read = c .before .before in
     let a = read .before .before .before .before .args in

@@ -7,11 +7,11 @@ use mathlib.Core.List.{List}
 use native.Mathlib.Omega.{arith}
 use lib.ListN.{length}
 use borrow.Author.Tests.{eqb-true, eqb-false, not-true, not-false}
-use Rattle.trace.specs.Line.{sideOf, clockOf, packetLength}
+use Rattle.trace.specs.Line.{lineSide, lineClock, packetLength}
 use Rattle.trace.specs.Read.{firstIllegal, wellFormed, readLine, packetAfter, packetAfterReading, readAnswer, reading}
 use Rattle.trace.specs.declared.LineRead.{LineRead}
 use Rattle.trace.specs.declared.LineRead.the-variants.{Malformed, Frame}
-use Rattle.trace.proofs.Line.{sideOf-legal}
+use Rattle.trace.proofs.Line.{lineSide-legal}
 use Rattle.trace.proofs.Read.{wellFormed-true, illegal-malformed, short-malformed, even-malformed, wellFormed-legal, readLine-too-long, readLine-malformed, readLine-no-room, readLine-frame}
 use borrow.Author.Needs.{needs}
 use Rattle.trace.proofs.read_line.Statement.{statement}
@@ -70,7 +70,7 @@ shared-slice-read-side c = search needs
 sub-side : tie.Need-sub-side
 sub-side c =
     let l = c .before .before .before .before .before .before .before .before .before .args .line .now in
-    sideOf-legal l (packetLength l) (wellFormed-legal l (omega arith) (well-formed (c .before .before))) .0
+    lineSide-legal l (packetLength l) (wellFormed-legal l (omega arith) (well-formed (c .before .before))) .0
 
 hex-number-requires : tie.Need-hex-number-requires
 hex-number-requires c κs = search needs
@@ -83,10 +83,10 @@ same-length : tie.Need-same-length
 same-length c = search needs
 
 returns-5 : tie.Need-returns-5
-unfolding packetAfter packetLength sideOf clockOf
+unfolding packetAfter packetLength lineSide lineClock
 returns-5 c =
     let a = c .before .before .before .before .before .before .before .before .before .before .before .before .before .before .args in told (a .line .now) (a .packet .now) (
-      ap (λ (k : ℕ). Frame (sideOf (a .line .now)) k (packetLength (a .line .now))) (c .before .before .before .before .hex-number .ensures .0)
+      ap (λ (k : ℕ). Frame (lineSide (a .line .now)) k (packetLength (a .line .now))) (c .before .before .before .before .hex-number .ensures .0)
           ∙ sym (readLine-frame (a .line .now) (length (a .packet .now)) (omega arith) (well-formed (c .before .before .before .before .before .before .before)) (omega arith)),
       c .before .before .read-packet .ensures,
     )

@@ -7,7 +7,7 @@ use Rattle.octets.specs.Digits.{tabulate}
 use Rattle.octets.specs.Overwrite.{overwrite}
 use Rattle.octets.proofs.Overwrite.{overwrite-nothing, overwrite-tabulate}
 use Rattle.trace.specs.Hex.{hexNumber}
-use Rattle.trace.specs.Line.{packetLength, packetOf}
+use Rattle.trace.specs.Line.{packetLength, linePacket}
 use Rattle.trace.proofs.read_packet.Statement.{statement}
 use Rattle.trace.proofs.read_packet.Tie as tie
 
@@ -55,7 +55,7 @@ same-length : tie.Need-same-length Inv-loop μ-loop
 same-length c = c .before .loop .inv .1
 
 returns : tie.Need-returns Inv-loop μ-loop
-unfolding packetOf
+unfolding linePacket
 returns c =
     let a = c .before .before .before .before .args in
     let done : c .before .loop .i ≡ packetLength (a .line .now) = omega arith in
