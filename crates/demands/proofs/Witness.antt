@@ -63,8 +63,8 @@ bytes-witness-refuses = (all-read .1, all-read .2)
 
 witness-carried : Carries ipv4Machine bytesWitness witness
 witness-carried =
-    refused-carries ipv4Machine 38 fragment 7 (bytes-witness-refuses .1)
-    (refused-carries ipv4Machine 53 wrongSum 6 (bytes-witness-refuses .0)
+    refused-carries ipv4Machine 40 fragment 7 (bytes-witness-refuses .1)
+    (refused-carries ipv4Machine 48 wrongSum 6 (bytes-witness-refuses .0)
     (made-carries ipv4Machine (λ b. bytesCall (b .0)) witness (all-read .0)))
 
 pub bytes-witness-legal : Legal ipv4Machine (freshBytes V4 64) ends bytesWitness
@@ -74,7 +74,7 @@ pub bytes-witness-passes : NeverBlocked ipv4Machine (freshBytes V4 64) bytesWitn
 bytes-witness-passes =
     demands-of-ipv4 .demand3 64 (omega arith) (omega arith) ends (omega arith) bytesWitness bytes-witness-legal
 
--- of the calls that ask something and are no arrivals, the two openings pass and the two others are blocked; every FIN has passed
+-- of the calls that ask something and are no arrivals, those of other connections' openings pass and two are blocked; every FIN has passed
 pub bytes-witness-shows :
-    summaryOf ipv4Machine (freshBytes V4 64) bytesWitness ≡ record { others = 0 ∷ 11 ∷ 14 ∷ 0 ∷ []; place = 1; stage = 5 }
+    summaryOf ipv4Machine (freshBytes V4 64) bytesWitness ≡ record { others = 0 ∷ 0 ∷ 0 ∷ 0 ∷ 11 ∷ 14 ∷ 0 ∷ 0 ∷ 0 ∷ []; place = 1; stage = 5 }
 bytes-witness-shows = summary-on-bytes 64 (omega arith) (omega arith) witness-carried ∙ witness-shows

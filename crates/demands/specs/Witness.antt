@@ -22,14 +22,14 @@ spoilt from n v q = record {
   octets = octets-overwrite (q .packet) from (octetsOf n v) (q .octets) (octets-octetsOf n v);
 }
 
--- the opener's sending 3 with a time to live of 63 for 64: the header's sum is wrong
+-- the opener's sending 4 with a time to live of 63 for 64: the header's sum is wrong
 abbrev pub wrongSum : BytesCall
-wrongSum = spoilt 8 1 63 (bytesCall (brings 3900 (o 3) .0))
+wrongSum = spoilt 8 1 63 (bytesCall (brings 180900 (o 4) .0))
 
 -- its sending 5 with more-fragments set and a time to live of 32, so that the sum is right
 abbrev pub fragment : BytesCall
-fragment = spoilt 6 3 0x200020 (bytesCall (brings 5900 (o 5) .0))
+fragment = spoilt 6 3 0x200020 (bytesCall (brings 181900 (o 5) .0))
 
--- each right before the arrival of the packet that it was made from, which is 38th and 53rd from the end
+-- each right before the arrival of the packet that it was made from, which is 40th and 48th from the end
 abbrev pub bytesWitness : List (Event BytesCall)
-bytesWitness = withOther 38 fragment (withOther 53 wrongSum madeWitness)
+bytesWitness = withOther 40 fragment (withOther 48 wrongSum madeWitness)

@@ -26,7 +26,7 @@ use Rattle.honest.proofs.Check.{legal?, legal?-sound}
 
 computed :
     (legal? empty ends witness ≡ true)
-    × (summaryOf (viewMachine (λ p. p)) empty witness ≡ record { others = 0 ∷ 11 ∷ 14 ∷ 0 ∷ []; place = 1; stage = 5 })
+    × (summaryOf (viewMachine (λ p. p)) empty witness ≡ record { others = 0 ∷ 0 ∷ 0 ∷ 0 ∷ 11 ∷ 14 ∷ 0 ∷ 0 ∷ 0 ∷ []; place = 1; stage = 5 })
 unfolding if_then_else_ wrap ringPlus ringMinus nearest further sent granted endsAfter sequenceMet ackMet lifeOf withFin finsAfter openStage stageAfter sameSyn reply verdictUnanswered verdictByRanges verdictOn opened repeated answered carried passed finsOf stageOf firstFrom fromOpener fromAnswerer liveMatch vacant senderOf entryWith onEntry openingEntry unmatched onSegment sameFlow sentBy receivedBy highest some passes afterCall told Rules.hasAnswer
 computed = (refl, refl)
 
@@ -36,6 +36,6 @@ witness-legal = legal?-sound empty ends witness (computed .0)
 pub witness-passes : NeverBlocked (viewMachine (λ p. p)) empty witness
 witness-passes = demand3-view (λ p. p) empty (fresh-sound (λ p. p) 64) ends (omega arith) witness witness-legal
 
--- of the calls that are no arrivals, the two openings pass and the two others are blocked; every FIN has passed
-pub witness-shows : summaryOf (viewMachine (λ p. p)) empty witness ≡ record { others = 0 ∷ 11 ∷ 14 ∷ 0 ∷ []; place = 1; stage = 5 }
+-- of the calls that are no arrivals, those of other connections' openings pass and two are blocked; every FIN has passed
+pub witness-shows : summaryOf (viewMachine (λ p. p)) empty witness ≡ record { others = 0 ∷ 0 ∷ 0 ∷ 0 ∷ 11 ∷ 14 ∷ 0 ∷ 0 ∷ 0 ∷ []; place = 1; stage = 5 }
 witness-shows = computed .1

@@ -1,6 +1,7 @@
--- A legal list, so that demand 3 says something: one connection, from the opening to both FINs, whose numbers cross 2^32 both
--- ways, with a shrunk window and a zero one, losses before the filter and after it, repeats, resends, deliveries out of order, a clock
--- set back and other traffic.
+-- A legal list, so that demand 3 says something: one connection from the opening to both FINs, then expired and its place another's. An
+-- expired entry of the same ports stands beside it; in each stage an arrival comes at the last millisecond of the life. Its numbers cross
+-- 2^32 both ways, with zero windows and a shrunk one, first segments of different windows, losses before the filter and after it, repeats,
+-- resends, deliveries out of order, clocks set back and too large, and other traffic, blocked and passed.
 use Prim.Native.Nat.{ℕ, zero, suc, _+_, _-_, _^_, _≤_}
 use mathlib.Core.Path.{_≡_, refl}
 use mathlib.Core.Bool.{Bool, true, false, not, _&&_, _||_}
@@ -71,46 +72,47 @@ answerer's flags s n a w formed = record { line = answererLine flags s n a w; fo
 abbrev pub openerSends : List Piece
 openerSends =
     opener's SYN 0 1 0 1000 tt
-    -- 1: repeated
+    -- 1: again, with a zero window
+    ∷ opener's SYN 0 1 0 0 tt
+    -- 2: and with another
     ∷ opener's SYN 0 1 0 1000 tt
-    ∷ opener's ACK 1 0 1 1000 tt
-    -- 3: over 2^32
-    ∷ opener's ACK 1 10 1 1000 tt
-    ∷ opener's ACK 11 500 101 800 tt
-    ∷ opener's ACK 511 2000 101 800 tt
+    -- 3: one octet into the zero window of the answerer's 0
+    ∷ opener's ACK 1 1 1 1000 tt
+    -- 4: up to the right edge of its 1, over 2^32
+    ∷ opener's ACK 2 9 1 1000 tt
+    ∷ opener's ACK 11 2000 101 800 tt
     -- 6: lost before the filter
-    ∷ opener's ACK 2511 500 101 800 tt
+    ∷ opener's ACK 2011 500 101 800 tt
     -- 7: again, after a shrunk window
-    ∷ opener's ACK 511 1000 101 800 tt
+    ∷ opener's ACK 11 1000 101 800 tt
     -- 8: again, below an acknowledgement that passed and was not delivered
-    ∷ opener's ACK 511 600 101 800 tt
+    ∷ opener's ACK 11 600 101 800 tt
     -- 9: 6 again, up to the right edge; it passes and is never delivered
-    ∷ opener's ACK 2511 500 101 800 tt
+    ∷ opener's ACK 2011 500 101 800 tt
     -- 10: and again
-    ∷ opener's ACK 2511 500 101 800 tt
+    ∷ opener's ACK 2011 500 101 800 tt
     -- 11: one octet into a zero window
-    ∷ opener's ACK 3011 1 101 800 tt
-    ∷ opener's FIN+ACK 3012 1 152 1000 tt
+    ∷ opener's ACK 2511 1 101 800 tt
+    ∷ opener's FIN+ACK 2512 1 152 1000 tt
     ∷ []
 
 -- what the answerer sends, in order
 abbrev pub answererSends : List Piece
 answererSends =
-    answerer's SYN+ACK 0 1 1 2000 tt
-    -- 1: repeated
-    ∷ answerer's SYN+ACK 0 1 1 2000 tt
-    -- 2: over 2^32
-    ∷ answerer's ACK 1 100 1 2000 tt
-    -- 3: a right edge of 3011, and no other before 6 is further
-    ∷ answerer's ACK 101 0 11 3000 tt
-    -- 4: a shrunk window
-    ∷ answerer's ACK 101 0 511 100 tt
-    -- 5: passes and is delivered late
-    ∷ answerer's ACK 101 0 2511 500 tt
-    -- 6: all up to that edge, with a zero window: by max(w, 1) the edge is 3012
-    ∷ answerer's ACK 101 0 3011 0 tt
-    ∷ answerer's FIN+ACK 101 51 3012 4000 tt
-    ∷ answerer's ACK 152 0 3013 4000 tt
+    -- 0: by max(w, 1) the right edge is 2
+    answerer's SYN+ACK 0 1 1 0 tt
+    -- 1: again, with a window: the right edge is 11
+    ∷ answerer's SYN+ACK 0 1 1 10 tt
+    -- 2: over 2^32; a right edge of 2511, and no other before 5 is further
+    ∷ answerer's ACK 1 100 2 2509 tt
+    -- 3: a shrunk window
+    ∷ answerer's ACK 101 0 11 100 tt
+    -- 4: passes and is delivered late
+    ∷ answerer's ACK 101 0 2011 500 tt
+    -- 5: all up to that edge, with a zero window: by max(w, 1) the edge is 2512
+    ∷ answerer's ACK 101 0 2511 0 tt
+    ∷ answerer's FIN+ACK 101 51 2512 65535 tt
+    ∷ answerer's ACK 152 0 2513 65535 tt
     ∷ []
 
 -- the k-th sending
@@ -169,90 +171,93 @@ forges clock p = call (brings clock p) other
 -- oldest first; a call is given its clock, another's also its host and port
 abbrev pub story : List Seen
 story =
-    -- another connection opens
-    strays 5 3 5000 (opener's SYN 0 1 0 1000 tt)
-    -- the opening, at place 1; the SYN repeated and delivered
+    -- two other connections open, at places 0 and 1
+    strays 0 3 5000 (opener's SYN 0 1 0 1000 tt)
+    ∷ strays 0 4 5000 (opener's SYN 0 1 0 1000 tt)
+    -- the opener's SYN opens an earlier entry, at place 2, and is lost after the filter; nothing more passes there
     ∷ sends (o 0)
-    ∷ opens o 0 1000
+    ∷ forges 0 (o 0)
+    -- the first of the two repeats its SYN, and so lives a millisecond longer than the others
+    ∷ strays 1 3 5000 (opener's SYN 0 1 0 1000 tt)
+    -- the SYN again, as those expire: the opening, at place 1. The earlier entry stays in the table
     ∷ sends (o 1)
-    ∷ arrives o 1 2000
-    ∷ delivers o 0
-    -- the answer, twice; the opener's ACK
-    ∷ sends (a 0)
-    ∷ sends (a 1)
-    ∷ arrives a 0 3000
+    ∷ opens o 1 60000
     ∷ delivers o 1
-    ∷ delivers a 0
+    -- the answer, at the last millisecond of stage 1, and again at the last of stage 2
+    ∷ sends (a 0)
+    ∷ arrives a 0 119999
+    ∷ arrives a 0 179998
+    -- it has not been delivered, so the SYN again; then the opener's ACK, with one octet
     ∷ sends (o 2)
-    ∷ arrives o 2 3100
-    -- the answer's first sending arrives again, then its second
-    ∷ arrives a 0 3150
-    ∷ arrives a 1 3200
-    ∷ delivers o 2
-    -- data both ways, over 2^32
+    ∷ arrives o 2 180000
+    ∷ delivers a 0
     ∷ sends (o 3)
-    ∷ sends (a 2)
-    ∷ arrives o 3 4000
-    ∷ arrives a 2 4100
-    -- a segment of no connection, and one that is out of range: both are blocked
-    ∷ strays 4150 9 9000 (opener's ACK 1 0 1 1000 tt)
-    ∷ forges 4160 (opener's ACK 900000 10 1 1000 tt)
-    ∷ delivers o 3
-    ∷ delivers a 2
-    -- more data; another connection opens meanwhile, and the clock is set back
+    ∷ arrives o 3 180100
+    -- which has not been delivered, so the answer again; its window is larger, and the opener fills it
+    ∷ sends (a 1)
+    ∷ arrives a 1 180200
+    ∷ delivers a 1
     ∷ sends (o 4)
-    ∷ sends (a 3)
-    ∷ arrives o 4 5000
-    ∷ strays 5100 5 6000 (opener's SYN 7 1 0 1000 tt)
-    ∷ arrives a 3 4500
+    -- data both ways, over 2^32
+    ∷ delivers o 3
+    ∷ sends (a 2)
+    ∷ arrives o 4 181000
+    ∷ arrives a 2 181100
+    -- a segment of no connection, with the largest clock, and one that is out of range: both are blocked
+    ∷ strays (2 ^ 48 - 1) 9 9000 (opener's ACK 1 0 1 1000 tt)
+    ∷ forges 181200 (opener's ACK 900000 10 1 1000 tt)
     ∷ delivers o 4
-    ∷ delivers a 3
+    ∷ delivers a 2
     -- sent ahead, one of the two lost; then the window shrinks, and the opener sends again from below
     ∷ sends (o 5)
     ∷ sends (o 6)
-    ∷ arrives o 5 6000
-    ∷ sends (a 4)
-    ∷ arrives a 4 6100
-    ∷ delivers a 4
+    ∷ arrives o 5 182000
+    ∷ sends (a 3)
+    ∷ arrives a 3 182100
+    ∷ delivers a 3
     ∷ sends (o 7)
-    ∷ arrives o 7 6200
+    ∷ arrives o 7 182200
     -- out of order
     ∷ delivers o 7
     ∷ delivers o 5
     -- an acknowledgement passes and is not delivered yet; the opener sends again from below it
-    ∷ sends (a 5)
-    ∷ arrives a 5 7000
+    ∷ sends (a 4)
+    ∷ arrives a 4 183000
     ∷ sends (o 8)
-    ∷ arrives o 8 7100
-    ∷ delivers o 8
+    ∷ arrives o 8 183100
     ∷ delivers o 7
-    ∷ delivers a 5
-    ∷ delivers a 5
-    ∷ delivers a 3
+    ∷ delivers a 4
+    ∷ delivers a 4
+    ∷ delivers a 2
     -- what was lost is sent again, ends exactly at the right edge, passes and is never delivered; so again
     ∷ sends (o 9)
-    ∷ arrives o 9 7200
+    ∷ arrives o 9 184000
     ∷ sends (o 10)
-    ∷ arrives o 10 7300
+    ∷ arrives o 10 184100
     ∷ delivers o 10
-    -- the window closes there, and a probe of one octet goes into it
-    ∷ sends (a 6)
-    ∷ arrives a 6 7400
-    ∷ delivers a 6
+    -- the window closes there. Another connection opens meanwhile, at place 0, and the clock is set back
+    ∷ sends (a 5)
+    ∷ strays 190000 5 6000 (opener's SYN 7 1 0 1000 tt)
+    ∷ arrives a 5 0
+    ∷ delivers a 5
+    -- a probe of one octet goes into it, at the last millisecond of stage 3, by the other's clock
     ∷ sends (o 11)
-    ∷ arrives o 11 7500
+    ∷ arrives o 11 432189999
     ∷ delivers o 11
-    -- both FINs
-    ∷ sends (a 7)
-    ∷ arrives a 7 8000
-    ∷ delivers a 7
+    -- both FINs, the opener's at the last millisecond of stage 4, and again at the last of stage 5
+    ∷ sends (a 6)
+    ∷ arrives a 6 432200000
+    ∷ delivers a 6
     ∷ sends (o 12)
-    ∷ arrives o 12 8100
-    ∷ arrives o 12 8200
+    ∷ arrives o 12 435799999
+    ∷ arrives o 12 436039998
     ∷ delivers o 12
-    ∷ sends (a 8)
-    ∷ arrives a 8 8300
-    ∷ delivers a 8
+    ∷ sends (a 7)
+    ∷ arrives a 7 436040000
+    ∷ delivers a 7
+    -- the connection expires, and two others open, at place 0 and at place 1, which was its own
+    ∷ strays 436280000 6 7000 (opener's SYN 0 1 0 1000 tt)
+    ∷ strays 436280000 7 7000 (opener's SYN 0 1 0 1000 tt)
     ∷ []
 
 abbrev pub witness : List Seen
