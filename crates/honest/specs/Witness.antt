@@ -1,7 +1,7 @@
--- A legal list, so that demand 3 says something: one connection from the opening to both FINs, then expired and its place another's. An
--- expired entry of the same ports stands beside it; in each stage an arrival comes at the last millisecond of the life. Its numbers cross
--- 2^32 both ways, with zero windows and a shrunk one, first segments of different windows, losses before the filter and after it, repeats,
--- resends, deliveries out of order, clocks set back and too large, and other traffic, blocked and passed.
+-- A legal list, so that demand 3 says something: one connection, from the opening to both FINs and its end. An expired entry of the
+-- same ports stands beside it; in each stage an arrival comes at the last millisecond of the life; once it has expired, another connection
+-- takes its place. Its numbers cross 2^32 both ways, with zero windows and shrunk ones, first segments of different windows, losses before
+-- the filter and after it, repeats, resends, deliveries out of order, a clock set back, and other traffic, blocked and passed.
 use Prim.Native.Nat.{ℕ, zero, suc, _+_, _-_, _^_, _≤_}
 use mathlib.Core.Path.{_≡_, refl}
 use mathlib.Core.Bool.{Bool, true, false, not, _&&_, _||_}
@@ -75,25 +75,26 @@ openerSends =
     -- 1: again, with a zero window
     ∷ opener's SYN 0 1 0 0 tt
     -- 2: and with another
-    ∷ opener's SYN 0 1 0 1000 tt
+    ∷ opener's SYN 0 1 0 10 tt
     -- 3: one octet into the zero window of the answerer's 0
-    ∷ opener's ACK 1 1 1 1000 tt
-    -- 4: up to the right edge of its 1, over 2^32
-    ∷ opener's ACK 2 9 1 1000 tt
-    ∷ opener's ACK 11 2000 101 800 tt
+    ∷ opener's ACK 1 1 1 100 tt
+    -- 4: up to the right edge of its 1, over 2^32; a shrunk window
+    ∷ opener's ACK 2 9 1 50 tt
+    -- 5: a zero window from here on; acknowledges half of what was received
+    ∷ opener's ACK 11 2000 51 0 tt
     -- 6: lost before the filter
-    ∷ opener's ACK 2011 500 101 800 tt
+    ∷ opener's ACK 2011 500 101 0 tt
     -- 7: again, after a shrunk window
-    ∷ opener's ACK 11 1000 101 800 tt
+    ∷ opener's ACK 11 1000 101 0 tt
     -- 8: again, below an acknowledgement that passed and was not delivered
-    ∷ opener's ACK 11 600 101 800 tt
+    ∷ opener's ACK 11 600 101 0 tt
     -- 9: 6 again, up to the right edge; it passes and is never delivered
-    ∷ opener's ACK 2011 500 101 800 tt
+    ∷ opener's ACK 2011 500 101 0 tt
     -- 10: and again
-    ∷ opener's ACK 2011 500 101 800 tt
+    ∷ opener's ACK 2011 500 101 0 tt
     -- 11: one octet into a zero window
-    ∷ opener's ACK 2511 1 101 800 tt
-    ∷ opener's FIN+ACK 2512 1 152 1000 tt
+    ∷ opener's ACK 2511 1 101 0 tt
+    ∷ opener's FIN+ACK 2512 1 102 0 tt
     ∷ []
 
 -- what the answerer sends, in order
@@ -103,16 +104,19 @@ answererSends =
     answerer's SYN+ACK 0 1 1 0 tt
     -- 1: again, with a window: the right edge is 11
     ∷ answerer's SYN+ACK 0 1 1 10 tt
-    -- 2: over 2^32; a right edge of 2511, and no other before 5 is further
-    ∷ answerer's ACK 1 100 2 2509 tt
-    -- 3: a shrunk window
-    ∷ answerer's ACK 101 0 11 100 tt
-    -- 4: passes and is delivered late
+    -- 2: up to the right edge of the opener's 3, over 2^32, acknowledging the SYN alone; its own edge is 2511, none before 6 is further
+    ∷ answerer's ACK 1 100 1 2510 tt
+    -- 3: again, after a shrunk window and with one
+    ∷ answerer's ACK 1 100 11 100 tt
+    -- 4: lost before the filter
     ∷ answerer's ACK 101 0 2011 500 tt
-    -- 5: all up to that edge, with a zero window: by max(w, 1) the edge is 2512
+    -- 5: again; it passes and is delivered late
+    ∷ answerer's ACK 101 0 2011 500 tt
+    -- 6: all up to that edge, with a zero window: by max(w, 1) the edge is 2512
     ∷ answerer's ACK 101 0 2511 0 tt
-    ∷ answerer's FIN+ACK 101 51 2512 65535 tt
-    ∷ answerer's ACK 152 0 2513 65535 tt
+    -- 7: a FIN into the opener's zero window
+    ∷ answerer's FIN+ACK 101 1 2512 65535 tt
+    ∷ answerer's ACK 102 0 2513 65535 tt
     ∷ []
 
 -- the k-th sending
@@ -208,7 +212,7 @@ story =
     ∷ forges 181200 (opener's ACK 900000 10 1 1000 tt)
     ∷ delivers o 4
     ∷ delivers a 2
-    -- sent ahead, one of the two lost; then the window shrinks, and the opener sends again from below
+    -- sent ahead, one of the two lost; the answerer sends again, with a shrunk window, and so does the opener
     ∷ sends (o 5)
     ∷ sends (o 6)
     ∷ arrives o 5 182000
@@ -217,18 +221,16 @@ story =
     ∷ delivers a 3
     ∷ sends (o 7)
     ∷ arrives o 7 182200
-    -- out of order
+    -- out of order, and one of the two twice
     ∷ delivers o 7
     ∷ delivers o 5
-    -- an acknowledgement passes and is not delivered yet; the opener sends again from below it
+    ∷ delivers o 7
+    -- of two acknowledgements one is lost, one passes and is not delivered yet; the opener sends again from below it
     ∷ sends (a 4)
-    ∷ arrives a 4 183000
+    ∷ sends (a 5)
+    ∷ arrives a 5 183000
     ∷ sends (o 8)
     ∷ arrives o 8 183100
-    ∷ delivers o 7
-    ∷ delivers a 4
-    ∷ delivers a 4
-    ∷ delivers a 2
     -- what was lost is sent again, ends exactly at the right edge, passes and is never delivered; so again
     ∷ sends (o 9)
     ∷ arrives o 9 184000
@@ -236,28 +238,31 @@ story =
     ∷ arrives o 10 184100
     ∷ delivers o 10
     -- the window closes there. Another connection opens meanwhile, at place 0, and the clock is set back
-    ∷ sends (a 5)
+    ∷ sends (a 6)
     ∷ strays 190000 5 6000 (opener's SYN 7 1 0 1000 tt)
-    ∷ arrives a 5 0
+    ∷ arrives a 6 0
+    -- out of order, and one of the two twice
+    ∷ delivers a 6
     ∷ delivers a 5
-    -- a probe of one octet goes into it, at the last millisecond of stage 3, by the other's clock
+    ∷ delivers a 5
+    -- a probe of one octet goes into the closed window, at the last millisecond of stage 3, told from the other's pass
     ∷ sends (o 11)
     ∷ arrives o 11 432189999
     ∷ delivers o 11
     -- both FINs, the opener's at the last millisecond of stage 4, and again at the last of stage 5
-    ∷ sends (a 6)
-    ∷ arrives a 6 432200000
-    ∷ delivers a 6
+    ∷ sends (a 7)
+    ∷ arrives a 7 432200000
+    ∷ delivers a 7
     ∷ sends (o 12)
     ∷ arrives o 12 435799999
     ∷ arrives o 12 436039998
     ∷ delivers o 12
-    ∷ sends (a 7)
-    ∷ arrives a 7 436040000
-    ∷ delivers a 7
-    -- the connection expires, and two others open, at place 0 and at place 1, which was its own
+    ∷ sends (a 8)
+    ∷ arrives a 8 436040000
+    -- it expires, and as it does two others open, at place 0 and at place 1, which was its own; what passed last is delivered only now
     ∷ strays 436280000 6 7000 (opener's SYN 0 1 0 1000 tt)
     ∷ strays 436280000 7 7000 (opener's SYN 0 1 0 1000 tt)
+    ∷ delivers a 8
     ∷ []
 
 abbrev pub witness : List Seen
