@@ -74,7 +74,7 @@ pub bytes-witness-passes : NeverBlocked ipv4Machine (freshBytes V4 64) bytesWitn
 bytes-witness-passes =
     demands-of-ipv4 .demand3 64 (omega arith) (omega arith) ends (omega arith) bytesWitness bytes-witness-legal
 
--- of the calls that ask something and are no arrivals, those of other connections' openings pass and two are blocked; every FIN has passed
+-- of the calls that ask something and are no arrivals, the seven SYNs pass and the other two are blocked; both FINs have passed
 pub bytes-witness-shows :
     summaryOf ipv4Machine (freshBytes V4 64) bytesWitness ≡ record { others = 0 ∷ 0 ∷ 0 ∷ 0 ∷ 11 ∷ 14 ∷ 0 ∷ 0 ∷ 0 ∷ []; place = 1; stage = 5 }
 bytes-witness-shows = summary-on-bytes 64 (omega arith) (omega arith) witness-carried ∙ witness-shows

@@ -36,6 +36,6 @@ witness-legal = legal?-sound empty ends witness (computed .0)
 pub witness-passes : NeverBlocked (viewMachine (λ p. p)) empty witness
 witness-passes = demand3-view (λ p. p) empty (fresh-sound (λ p. p) 64) ends (omega arith) witness witness-legal
 
--- of the calls that are no arrivals, those of other connections' openings pass and two are blocked; every FIN has passed
+-- of the calls that are no arrivals, the seven SYNs pass and the other two are blocked; both FINs have passed
 pub witness-shows : summaryOf (viewMachine (λ p. p)) empty witness ≡ record { others = 0 ∷ 0 ∷ 0 ∷ 0 ∷ 11 ∷ 14 ∷ 0 ∷ 0 ∷ 0 ∷ []; place = 1; stage = 5 }
 witness-shows = computed .1

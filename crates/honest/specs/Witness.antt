@@ -168,9 +168,9 @@ delivers of k = delivery k (of k .line)
 abbrev pub strays : (clock host port : ℕ) → Piece → Seen
 strays clock host port p = call (calls 0 (omega arith) clock (between (endpoint (dotted 10 0 0 host) port) (endpoint (dotted 10 0 0 2) 80)) p) other
 
--- a segment in the pair's name that no end has sent
-abbrev pub forges : (clock : ℕ) → Piece → Seen
-forges clock p = call (brings clock p) other
+-- a segment in the pair's name that counts as no arrival: one before the opening, or one that no end has sent
+abbrev pub uncounted : (clock : ℕ) → Piece → Seen
+uncounted clock p = call (brings clock p) other
 
 -- oldest first; a call is given its clock, another's also its host and port
 abbrev pub story : List Seen
@@ -180,7 +180,7 @@ story =
     ∷ strays 0 4 5000 (opener's SYN 0 1 0 1000 tt)
     -- the opener's SYN opens an earlier entry, at place 2, and is lost after the filter; nothing more passes there
     ∷ sends (o 0)
-    ∷ forges 0 (o 0)
+    ∷ uncounted 0 (o 0)
     -- the first of the two repeats its SYN, and so lives a millisecond longer than the others
     ∷ strays 1 3 5000 (opener's SYN 0 1 0 1000 tt)
     -- the SYN again, as those expire: the opening, at place 1. The earlier entry stays in the table
@@ -202,14 +202,14 @@ story =
     ∷ arrives a 1 180200
     ∷ delivers a 1
     ∷ sends (o 4)
-    -- data both ways, over 2^32
+    -- meanwhile the answerer sends: data both ways, over 2^32
     ∷ delivers o 3
     ∷ sends (a 2)
     ∷ arrives o 4 181000
     ∷ arrives a 2 181100
     -- a segment of no connection, with the largest clock, and one that is out of range: both are blocked
     ∷ strays (2 ^ 48 - 1) 9 9000 (opener's ACK 1 0 1 1000 tt)
-    ∷ forges 181200 (opener's ACK 900000 10 1 1000 tt)
+    ∷ uncounted 181200 (opener's ACK 900000 10 1 1000 tt)
     ∷ delivers o 4
     ∷ delivers a 2
     -- sent ahead, one of the two lost; the answerer sends again, with a shrunk window, and so does the opener
