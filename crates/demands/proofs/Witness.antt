@@ -18,7 +18,7 @@ use Rattle.honest.specs.Honest.{Legal, NeverBlocked}
 use Rattle.honest.specs.Demand2.{fresh}
 use Rattle.honest.specs.Instance.{ViewCall, viewMachine}
 use Rattle.honest.specs.Carries.{Carries, readings, summaryOf}
-use Rattle.honest.specs.Witness.{ends, witness}
+use Rattle.honest.specs.Witness.{pair, witness}
 use Rattle.honest.proofs.Transfer.{made-carries, refused-carries, legal-carried, summary-carried}
 use Rattle.honest.proofs.Witness.{witness-legal, witness-shows}
 use Rattle.demands.specs.Bytes.{BytesCall, SoundBytes, readingOf, ipv4Machine}
@@ -67,12 +67,12 @@ witness-carried =
     (refused-carries ipv4Machine 48 wrongSum 6 (bytes-witness-refuses .0)
     (made-carries ipv4Machine (λ b. bytesCall (b .0)) witness (all-read .0)))
 
-pub bytes-witness-legal : Legal ipv4Machine (freshBytes V4 64) ends bytesWitness
-bytes-witness-legal = legal-on-bytes 64 (omega arith) (omega arith) witness-carried ends witness-legal
+pub bytes-witness-legal : Legal ipv4Machine (freshBytes V4 64) pair bytesWitness
+bytes-witness-legal = legal-on-bytes 64 (omega arith) (omega arith) witness-carried pair witness-legal
 
 pub bytes-witness-passes : NeverBlocked ipv4Machine (freshBytes V4 64) bytesWitness
 bytes-witness-passes =
-    demands-of-ipv4 .demand3 64 (omega arith) (omega arith) ends (omega arith) bytesWitness bytes-witness-legal
+    demands-of-ipv4 .demand3 64 (omega arith) (omega arith) pair (omega arith) bytesWitness bytes-witness-legal
 
 -- of the calls that ask something and are no arrivals, the seven SYNs pass and the other two are blocked; both FINs have passed
 pub bytes-witness-shows :

@@ -13,7 +13,7 @@ use Rattle.honest.specs.Rules.{Event, send, call, delivery, Pair}
 use Rattle.honest.specs.Honest.{said, Fair, Legal}
 use Rattle.honest.specs.Instance.{ViewCall, viewMachine}
 use Rattle.honest.specs.Demand2.{fresh}
-use Rattle.honest.specs.Witness.{starts, ends, Piece, opener's, answerer's, Seen, sends, opens, arrives, delivers, forges}
+use Rattle.honest.specs.Witness.{pair, Piece, opener's, answerer's, Seen, sends, opens, arrives, delivers, uncounted}
 
 -- What a list shows; its parts are told oldest first
 pub record Need : Type 0 where
@@ -103,7 +103,7 @@ answererAhead =
 
 abbrev need : (before : List Seen) (broken instead : Seen) (later : List Seen) (answer : ℕ) → Need
 need before broken instead later answer =
-    record { pair = ends; before = before; broken = broken; instead = instead; later = later; answer = answer }
+    record { pair = pair; before = before; broken = broken; instead = instead; later = later; answer = answer }
 
 -- an end whose SYN is number 0 sends an empty ACK at 0
 abbrev zeroPair : Pair
@@ -174,13 +174,13 @@ ofCalls =
     -- "Each end's arrivals are its sendings in order": the opener's ACK comes after what was sent later
     ∷ need (handshake ++ openerAhead) (comes 1 0 ack) (comes 3 0 (opener's ACK 1001 1000 1 1000 tt)) [] 14
     -- "The opening" is one: a second one, once the first has expired, and an answerer that goes on as if nothing had been
-    ∷ need handshake (opensAt 432000000 syn) (forges 432000000 syn)
+    ∷ need handshake (opensAt 432000000 syn) (uncounted 432000000 syn)
     (sends (answerer's ACK 1 10 1 1000 tt) ∷ comes 1 432000000 (answerer's ACK 1 10 1 1000 tt) ∷ []) 13
     -- "that finds no live match": it passes on an earlier connection of the same ports, by its ranges
-    ∷ need (forges 0 syn ∷ forges 0 (answerer's SYN+ACK 70000 1 1 1000 tt) ∷ sends syn ∷ []) (opensAt 0 syn) (opensAt 60000 syn)
+    ∷ need (uncounted 0 syn ∷ uncounted 0 (answerer's SYN+ACK 70000 1 1 1000 tt) ∷ sends syn ∷ []) (opensAt 0 syn) (opensAt 60000 syn)
     (got 0 syn ∷ sends synAck ∷ comes 0 0 synAck ∷ []) 14
     -- "a call that is no arrival .. isn't passed on the opening's entry": a reset that no end has sent
-    ∷ need synAckThrough (forges 0 (opener's ACK+RST 1 0 1 1000 tt)) (forges 0 (opener's ACK+RST 900000 0 1 1000 tt)) (comes 0 0 synAck ∷ []) 11
+    ∷ need synAckThrough (uncounted 0 (opener's ACK+RST 1 0 1 1000 tt)) (uncounted 0 (opener's ACK+RST 900000 0 1 1000 tt)) (comes 0 0 synAck ∷ []) 11
     -- "A segment is delivered only after an arrival of it .. was answered 0": one that has not arrived
     ∷ need (synThrough ++ (sends synAck ∷ [])) (got 0 synAck) (got 0 syn) (sends ack ∷ comes 1 0 ack ∷ []) 13
     -- "the connection is live": at the deadline

@@ -16,6 +16,7 @@ use Rattle.serial.proofs.Ring.{wrap-small}
 use Rattle.address.specs.Flows.{dotted, endpoint, between, reversed}
 use Rattle.address.specs.declared.Flow.{Flow}
 use Rattle.segment.specs.Flags.{syn, SYN, SYN+ACK, ACK, FIN+ACK}
+use Rattle.connection.specs.Ends.{opener, answerer}
 use Rattle.rows.specs.Examples.{outward}
 use Rattle.history.specs.History.{LineSegment, onWire, Placeable}
 use Rattle.honest.specs.Rules.{opening, arrival, other, Event, send, call, delivery, Pair}
@@ -23,24 +24,24 @@ use Rattle.honest.specs.Instance.{ViewCall}
 
 -- The pair: the opener's SYN is number 2^32 − 3, the answerer's 2^32 − 2
 
-abbrev pub starts : ℕ → ℕ
-starts zero = 2 ^ 32 - 3
-starts (suc i) = 2 ^ 32 - 2
+abbrev pub synNumber : ℕ → ℕ
+synNumber zero = 2 ^ 32 - 3
+synNumber (suc i) = 2 ^ 32 - 2
 
-abbrev pub ends : Pair
-ends = record { side = 0; key = outward; start = starts }
+abbrev pub pair : Pair
+pair = record { side = 0; key = outward; start = synNumber }
 
 -- Segments
 
 -- a 16-bit window, and a SYN alone
-abbrev pub wellFormed : LineSegment → Bool
-wellFormed p = (p .window ≤ᵇ 65535) && (not (syn (p .flags) =ᵇ 1) || (p .length =ᵇ 1))
+abbrev pub carriable : LineSegment → Bool
+carriable p = (p .window ≤ᵇ 65535) && (not (syn (p .flags) =ᵇ 1) || (p .length =ᵇ 1))
 
 is-true : (b : Bool) → T b → b ≡ true
 is-true true _ = refl
 is-true false never = absurd never
 
-pub placeable : (p : LineSegment) → T (wellFormed p) → Placeable (onWire p)
+pub placeable : (p : LineSegment) → T (carriable p) → Placeable (onWire p)
 placeable p formed =
     let h = &&-true (p .window ≤ᵇ 65535) _ (is-true _ formed) in
     record {
@@ -53,19 +54,19 @@ placeable p formed =
 -- a segment that a packet can carry
 pub record Piece : Type 0 where
   pub line : LineSegment
-  pub formed : T (wellFormed line)
+  pub formed : T (carriable line)
 
 -- by flags, s, n, a and w; s and a are counted from the SYN of the end that they belong to
 abbrev pub openerLine : (flags s n a w : ℕ) → LineSegment
-openerLine flags s n a w = record { from = 0; flags = flags; start = starts 0 + s; length = n; acked = starts 1 + a; window = w }
+openerLine flags s n a w = record { from = opener; flags = flags; start = synNumber opener + s; length = n; acked = synNumber answerer + a; window = w }
 
 abbrev pub answererLine : (flags s n a w : ℕ) → LineSegment
-answererLine flags s n a w = record { from = 1; flags = flags; start = starts 1 + s; length = n; acked = starts 0 + a; window = w }
+answererLine flags s n a w = record { from = answerer; flags = flags; start = synNumber answerer + s; length = n; acked = synNumber opener + a; window = w }
 
-abbrev pub opener's : (flags s n a w : ℕ) → T (wellFormed (openerLine flags s n a w)) → Piece
+abbrev pub opener's : (flags s n a w : ℕ) → T (carriable (openerLine flags s n a w)) → Piece
 opener's flags s n a w formed = record { line = openerLine flags s n a w; formed = formed }
 
-abbrev pub answerer's : (flags s n a w : ℕ) → T (wellFormed (answererLine flags s n a w)) → Piece
+abbrev pub answerer's : (flags s n a w : ℕ) → T (carriable (answererLine flags s n a w)) → Piece
 answerer's flags s n a w formed = record { line = answererLine flags s n a w; formed = formed }
 
 -- what the opener sends, in order
