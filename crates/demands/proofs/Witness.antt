@@ -18,7 +18,7 @@ use Rattle.honest.specs.Honest.{Legal, NeverBlocked}
 use Rattle.honest.specs.Demand2.{fresh}
 use Rattle.honest.specs.Instance.{ViewCall, viewMachine}
 use Rattle.honest.specs.Carries.{Carries, readings, summaryOf}
-use Rattle.honest.specs.Witness.{pair, witness}
+use Rattle.honest.specs.Witness.{pair, witness, comesTo}
 use Rattle.honest.proofs.Transfer.{made-carries, refused-carries, legal-carried, summary-carried}
 use Rattle.honest.proofs.Witness.{witness-legal, witness-shows}
 use Rattle.demands.specs.Bytes.{BytesCall, SoundBytes, readingOf, ipv4Machine}
@@ -74,7 +74,6 @@ pub bytes-witness-passes : NeverBlocked ipv4Machine (freshBytes V4 64) bytesWitn
 bytes-witness-passes =
     demands-of-ipv4 .demand3 64 (omega arith) (omega arith) pair (omega arith) bytesWitness bytes-witness-legal
 
--- of the calls that ask something and are no arrivals, the seven SYNs pass and the other two are blocked; both FINs have passed
 pub bytes-witness-shows :
-    summaryOf ipv4Machine (freshBytes V4 64) bytesWitness ≡ record { others = 0 ∷ 0 ∷ 0 ∷ 0 ∷ 11 ∷ 14 ∷ 0 ∷ 0 ∷ 0 ∷ []; place = 1; stage = 5 }
+    summaryOf ipv4Machine (freshBytes V4 64) bytesWitness ≡ comesTo
 bytes-witness-shows = summary-on-bytes 64 (omega arith) (omega arith) witness-carried ∙ witness-shows

@@ -17,7 +17,7 @@ use Rattle.honest.specs.Machine.{refused, asks, Machine, clockIn, KeepsT
 use Rattle.honest.specs.Rules.{Label, opening, arrival, other, Event, send, call, delivery, Pair, sentBy, Sent, Arrived, receivedBy, hasAnswer, Allowed, openers-syn, answerers-syn-ack, later}
 use Rattle.honest.specs.Honest.{Told, passes, nextClock, afterSegment, afterCall, told, said, WasPassed, Arrives, FairCall, Legal}
 use Rattle.honest.specs.Instance.{ViewCall, viewMachine}
-use Rattle.honest.specs.Carries.{Carries, none, sent, called, refused-alone, delivered, LegalCarried, withCall, withOther, readings, ifAsked, otherAnswers, summaryOf, SummaryCarried}
+use Rattle.honest.specs.Carries.{Carries, none, sent, called, refused-alone, delivered, LegalCarried, withCall, withOther, readings, ifAsked, othersSaid, summaryOf, SummaryCarried}
 
 -- What ends have sent and received, and what has arrived
 
@@ -281,13 +281,13 @@ module _ (M : Machine) (Sound : M .State → Type 0) (keeps : KeepsTo M Sound) (
       (λ on-ours. false-true (sym (refused-no-pass _ (told-sound c) q n is) ∙ on-ours .answered-0), legal-along P c legal)
   legal-along P (delivered {k = k} {p = p} c) legal = (passed-carried k p c (legal .0), legal-along P c (legal .1))
 
-  others-same : {L : Carrying M} {N : Carried M} → Carries M L N → otherAnswers M s₀ L ≡ otherAnswers F t₀ N
+  others-same : {L : Carrying M} {N : Carried M} → Carries M L N → othersSaid M s₀ L ≡ othersSaid F t₀ N
   others-same none = refl
   others-same (sent c) = others-same c
   others-same (called {l = opening k p} is c) = others-same c
   others-same (called {l = arrival k p} is c) = others-same c
-  others-same (called {q = q} {b = b} {l = other} is c) = λ i. ifAsked (is i) (said-answer-same c q b is i) (others-same c i)
-  others-same (refused-alone {q = q} {L = L} is c) = ap (λ r. ifAsked r (said M s₀ L q .answer) (otherAnswers M s₀ L)) is ∙ others-same c
+  others-same (called {q = q} {b = b} {l = other} is c) = λ i. ifAsked (is i) (said-answer-same c q b is i, said-place-same c q b is i) (others-same c i)
+  others-same (refused-alone {q = q} {L = L} is c) = ap (λ r. ifAsked r (said M s₀ L q .answer, said M s₀ L q .place) (othersSaid M s₀ L)) is ∙ others-same c
   others-same (delivered c) = others-same c
 
   summary-along : {L : Carrying M} {N : Carried M} → Carries M L N → summaryOf M s₀ L ≡ summaryOf F t₀ N

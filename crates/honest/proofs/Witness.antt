@@ -20,13 +20,13 @@ use Rattle.honest.specs.Honest.{passes, afterCall, told, Legal, NeverBlo
 use Rattle.honest.specs.Instance.{viewMachine}
 use Rattle.honest.specs.Carries.{summaryOf}
 use Rattle.honest.specs.Marked.{empty}
-use Rattle.honest.specs.Witness.{pair, witness}
+use Rattle.honest.specs.Witness.{pair, witness, comesTo}
 use Rattle.honest.proofs.Instance.{demand3-view, fresh-sound}
 use Rattle.honest.proofs.Check.{legal?, legal?-sound}
 
 computed :
     (legal? empty pair witness ≡ true)
-    × (summaryOf (viewMachine (λ p. p)) empty witness ≡ record { others = 0 ∷ 0 ∷ 0 ∷ 0 ∷ 11 ∷ 14 ∷ 0 ∷ 0 ∷ 0 ∷ []; place = 1; stage = 5 })
+    × (summaryOf (viewMachine (λ p. p)) empty witness ≡ comesTo)
 unfolding if_then_else_ wrap ringPlus ringMinus nearest further sent granted endsAfter sequenceMet ackMet lifeOf withFin finsAfter openStage stageAfter sameSyn reply verdictUnanswered verdictByRanges verdictOn opened repeated answered carried passed finsOf stageOf firstFrom fromOpener fromAnswerer liveMatch vacant senderOf entryWith onEntry openingEntry unmatched onSegment sameFlow sentBy receivedBy highest some passes afterCall told Rules.hasAnswer
 computed = (refl, refl)
 
@@ -36,6 +36,5 @@ witness-legal = legal?-sound empty pair witness (computed .0)
 pub witness-passes : NeverBlocked (viewMachine (λ p. p)) empty witness
 witness-passes = demand3-view (λ p. p) empty (fresh-sound (λ p. p) 64) pair (omega arith) witness witness-legal
 
--- of the calls that are no arrivals, the seven SYNs pass and the other two are blocked; both FINs have passed
-pub witness-shows : summaryOf (viewMachine (λ p. p)) empty witness ≡ record { others = 0 ∷ 0 ∷ 0 ∷ 0 ∷ 11 ∷ 14 ∷ 0 ∷ 0 ∷ 0 ∷ []; place = 1; stage = 5 }
+pub witness-shows : summaryOf (viewMachine (λ p. p)) empty witness ≡ comesTo
 witness-shows = computed .1

@@ -51,32 +51,32 @@ readings M (delivery k p ∷ L) = readings M L
 
 -- What a list comes to, so that a witness is seen to do something
 
--- the answers to the calls that ask something and are no arrivals, oldest first; the place that the opening took; the stage of what has
--- passed there
+-- answer and place of the calls that ask something and are no arrivals, oldest first; the place that the opening took; the stage of what
+-- has passed there
 pub record Summary : Type 0 where
-  pub others : List ℕ
+  pub others : List (ℕ × ℕ)
   pub place : ℕ
   pub stage : ℕ
 
--- an answer before others, if its call asks something
-abbrev pub ifAsked : {A : Type 0} → Reading A → ℕ → List ℕ → List ℕ
-ifAsked (refused n) answer l = l
-ifAsked (asks a) answer l = answer ∷ l
-ifAsked apart answer l = l
+-- an answer and place before others, if their call asks something
+abbrev pub ifAsked : {A : Type 0} → Reading A → ℕ × ℕ → List (ℕ × ℕ) → List (ℕ × ℕ)
+ifAsked (refused n) said l = l
+ifAsked (asks a) said l = said ∷ l
+ifAsked apart said l = l
 
 module _ (M : Machine) (s₀ : M .State) where
   -- newest first
-  abbrev pub otherAnswers : List (Event (M .Call)) → List ℕ
-  otherAnswers [] = []
-  otherAnswers (call q other ∷ L) = ifAsked (M .reads q) (said M s₀ L q .answer) (otherAnswers L)
-  otherAnswers (call q (opening k p) ∷ L) = otherAnswers L
-  otherAnswers (call q (arrival k p) ∷ L) = otherAnswers L
-  otherAnswers (send p ∷ L) = otherAnswers L
-  otherAnswers (delivery k p ∷ L) = otherAnswers L
+  abbrev pub othersSaid : List (Event (M .Call)) → List (ℕ × ℕ)
+  othersSaid [] = []
+  othersSaid (call q other ∷ L) = ifAsked (M .reads q) (said M s₀ L q .answer, said M s₀ L q .place) (othersSaid L)
+  othersSaid (call q (opening k p) ∷ L) = othersSaid L
+  othersSaid (call q (arrival k p) ∷ L) = othersSaid L
+  othersSaid (send p ∷ L) = othersSaid L
+  othersSaid (delivery k p ∷ L) = othersSaid L
 
   -- by what the calls tell
   abbrev pub summaryOf : List (Event (M .Call)) → Summary
-  summaryOf L = record { others = reverse (otherAnswers L); place = told M s₀ L .place; stage = stageOf (told M s₀ L .history) }
+  summaryOf L = record { others = reverse (othersSaid L); place = told M s₀ L .place; stage = stageOf (told M s₀ L .history) }
 
 -- The claims: of a machine, from every sound state, for every list that carries another
 

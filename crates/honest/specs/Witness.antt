@@ -17,10 +17,12 @@ use Rattle.address.specs.Flows.{dotted, endpoint, between, reversed}
 use Rattle.address.specs.declared.Flow.{Flow}
 use Rattle.segment.specs.Flags.{syn, SYN, SYN+ACK, ACK, FIN+ACK}
 use Rattle.connection.specs.Ends.{opener, answerer}
+use Rattle.rows.specs.Rows.{nowhere}
 use Rattle.rows.specs.Examples.{outward}
 use Rattle.history.specs.History.{LineSegment, onWire, Placeable}
 use Rattle.honest.specs.Rules.{opening, arrival, other, Event, send, call, delivery, Pair}
 use Rattle.honest.specs.Instance.{ViewCall}
+use Rattle.honest.specs.Carries.{Summary}
 
 -- The pair: the opener's SYN is number 2^32 − 3, the answerer's 2^32 − 2
 
@@ -268,3 +270,12 @@ story =
 
 abbrev pub witness : List Seen
 witness = reverse story
+
+-- what it comes to. Of the calls that are no arrivals the seven SYNs pass, the last of them at the place that was the connection's, and the
+-- other two are blocked; the opening has place 1, and both FINs have passed
+abbrev pub comesTo : Summary
+comesTo = record {
+  others = (0, 0) ∷ (0, 1) ∷ (0, 2) ∷ (0, 0) ∷ (11, nowhere) ∷ (14, nowhere) ∷ (0, 0) ∷ (0, 0) ∷ (0, 1) ∷ [];
+  place = 1;
+  stage = 5;
+}
