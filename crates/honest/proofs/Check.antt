@@ -49,7 +49,7 @@ module _ {A B : Type 0} where
 abbrev pub yes : {A : Type 0} → A → Test A
 yes a = record { holds = true; shows = λ _. a }
 
-abbrev no : {A : Type 0} → Test A
+abbrev pub no : {A : Type 0} → Test A
 no = record { holds = false; shows = λ e. false-true e }
 
 abbrev isTrue : (b : Bool) → Test (b ≡ true)
@@ -61,7 +61,7 @@ isFalse b = record { holds = not b; shows = not-true b }
 abbrev pub equal : (m n : ℕ) → Test (m ≡ n)
 equal m n = record { holds = m =ᵇ n; shows = eqb-true m n }
 
-abbrev atMost : (m n : ℕ) → Test (m ≤ n)
+abbrev pub atMost : (m n : ℕ) → Test (m ≤ n)
 atMost m n = record { holds = m ≤ᵇ n; shows = leb-true m n }
 
 abbrev below : (m n : ℕ) → Test (m < n)

@@ -1,9 +1,11 @@
--- Each premise of demand 3 is needed, by computation.
-use mathlib.Core.Path.{_≡_, refl}
-use mathlib.Core.Bool.{Bool, true}
+-- Premises of demand 3 are needed: each list by computation, and that its event is not fair by demand 3 itself.
+use Prim.Native.Nat.{ℕ, _≤_}
+use mathlib.Core.Path.{_≡_, refl, sym, _∙_}
+use mathlib.Core.Bool.{Bool, true, not}
 use mathlib.Core.List.{List, [], _∷_, _++_, reverse}
-use Rattle.choice.specs.Choice.{if_then_else_}
-use Rattle.choice.proofs.Tests.{&&-true}
+use native.Mathlib.Omega.{arith}
+use borrow.Author.Tests.{not-true, eqb-false}
+use Rattle.choice.specs.Choice.{if_then_else_, _=ᵇ_}
 use Rattle.serial.specs.Ring.{wrap, ringPlus, ringMinus, nearest}
 use Rattle.serial.specs.Serial.{further}
 use Rattle.address.specs.Flows.{sameFlow}
@@ -12,32 +14,90 @@ use Rattle.connection.specs.Ranges.{sequenceMet, ackMet}
 use Rattle.connection.specs.Stages.{lifeOf, withFin, finsAfter, openStage, stageAfter}
 use Rattle.connection.specs.Decision.{sameSyn, reply, verdictUnanswered, verdictByRanges, verdictOn, opened, repeated, answered, carried, passed}
 use Rattle.rows.specs.Places.{firstFrom}
-use Rattle.rows.specs.Rows.{fromOpener, fromAnswerer, liveMatch, vacant, senderOf, entryWith, onEntry, openingEntry, unmatched, onSegment}
-use Rattle.history.specs.History.{finsOf, stageOf}
-use Rattle.honest.specs.Rules.{Pair, sentBy, receivedBy, highest, some, hasAnswer}
-use Rattle.honest.specs.Honest.{passes, afterCall, told}
-use Rattle.honest.specs.Demand2.{fresh}
+use Rattle.rows.specs.Rows.{View, fromOpener, fromAnswerer, liveMatch, vacant, senderOf, entryWith, onEntry, openingEntry, unmatched, onSegment}
 use Rattle.rows.specs.Connections.{connections}
+use Rattle.history.specs.History.{finsOf, stageOf}
+use Rattle.honest.specs.Machine.{Machine}
+use Rattle.honest.specs.Rules.{opening, arrival, other, send, call, delivery, Pair, sentBy, receivedBy, highest, some, hasAnswer}
+use Rattle.honest.specs.Honest.{passes, afterCall, told, said, Fair, Legal, NeverBlocked}
+use Rattle.honest.specs.Instance.{viewMachine}
+use Rattle.honest.specs.Demand2.{fresh}
 use Rattle.honest.specs.Witness.{Seen}
-use Rattle.honest.specs.Needed.{Need, FairAfter, newestAnswer, Shown, AllShown, ofSendings, ofCalls, EachNeeded}
-use Rattle.honest.proofs.Check.{Test, both, yes, so, equal, fair, checked}
+use Rattle.honest.specs.Needed.{Need, FairAfter, Blocked, Shown, AllShown, ofSendings, ofCalls, EachNeeded}
+use Rattle.honest.proofs.Check.{Test, both, yes, no, so, equal, atMost, fair, checked}
+use Rattle.honest.proofs.Instance.{demand3-view, fresh-sound}
+
+abbrev one : View connections
+one = fresh connections 1
+
+abbrev M : Machine
+M = viewMachine (λ p. p)
+
+-- By computation
 
 abbrev fairAfter : (P : Pair) (N L : List Seen) → Test (FairAfter P N L)
 fairAfter P [] L = yes tt
-fairAfter P (x ∷ N) L = both (fair (fresh connections 1) P x (N ++ L)) (fairAfter P N L)
+fairAfter P (x ∷ N) L = both (fair one P x (N ++ L)) (fairAfter P N L)
 
-abbrev shown : (n : Need) → Test (Shown n)
-shown n =
+abbrev notZero : (n : ℕ) → Test (n ≡ 0 → ⊥)
+notZero n = record { holds = not (n =ᵇ 0); shows = λ e. eqb-false n 0 (not-true (n =ᵇ 0) e) }
+
+abbrev blocked : (L : List Seen) (n : ℕ) → Test (Blocked L n)
+blocked [] n = no
+blocked (send p ∷ L) n = no
+blocked (call q (opening k p) ∷ L) n = no
+blocked (call q (arrival k p) ∷ L) n = both (equal (said M one L q .answer) n) (notZero n)
+blocked (call q other ∷ L) n = no
+blocked (delivery k p ∷ L) n = no
+
+-- all but that the event is not fair
+pub record Computed (n : Need) : Type 0 where
+  pub known : n .pair .side ≤ 1
+  pub legal-before : Legal M one (n .pair) (reverse (n .before))
+  pub fair-instead : Fair M one (n .pair) (n .instead) (reverse (n .before))
+  pub fair-later : FairAfter (n .pair) (reverse (n .later)) (n .broken ∷ reverse (n .before))
+  pub blocked : Blocked (reverse (n .later) ++ n .broken ∷ reverse (n .before)) (n .answer)
+
+abbrev computes : (n : Need) → Test (Computed n)
+computes n =
     let L = reverse (n .before) in
     let N = reverse (n .later) in
-    so (λ h. record { legal-before = h .0; fair-instead = h .1 .0; fair-later = h .1 .1 .0; blocked = h .1 .1 .1 })
-    (both (checked (fresh connections 1) (n .pair) L)
-    (both (fair (fresh connections 1) (n .pair) (n .instead) L)
-    (both (fairAfter (n .pair) N (n .broken ∷ L)) (equal (newestAnswer (N ++ n .broken ∷ L)) (n .answer)))))
+    so (λ h. record { known = h .0; legal-before = h .1 .0; fair-instead = h .1 .1 .0; fair-later = h .1 .1 .1 .0; blocked = h .1 .1 .1 .1 })
+    (both (atMost (n .pair .side) 1)
+    (both (checked one (n .pair) L)
+    (both (fair one (n .pair) (n .instead) L)
+    (both (fairAfter (n .pair) N (n .broken ∷ L)) (blocked (N ++ n .broken ∷ L) (n .answer))))))
+
+-- By demand 3
+
+legal-after : (P : Pair) (N L : List Seen) → FairAfter P N L → Legal M one P L → Legal M one P (N ++ L)
+legal-after P [] L later legal = legal
+legal-after P (x ∷ N) L later legal = (later .0, legal-after P N L (later .1) legal)
+
+-- an arrival that is blocked is on no list that is legal
+not-blocked : (L : List Seen) (n : ℕ) → NeverBlocked M one L → Blocked L n → ⊥
+not-blocked [] n passes here = here
+not-blocked (send p ∷ L) n passes here = here
+not-blocked (call q (opening k p) ∷ L) n passes here = here
+not-blocked (call q (arrival k p) ∷ L) n passes here = here .1 (sym (here .0) ∙ passes .0)
+not-blocked (call q other ∷ L) n passes here = here
+not-blocked (delivery k p ∷ L) n passes here = here
+
+shown : (n : Need) → Computed n → Shown n
+shown n c = record {
+  legal-before = c .legal-before;
+  not-fair = λ is-fair.
+      let L = reverse (n .later) ++ n .broken ∷ reverse (n .before) in
+      let legal = legal-after (n .pair) (reverse (n .later)) (n .broken ∷ reverse (n .before)) (c .fair-later) (is-fair, c .legal-before) in
+      not-blocked L (n .answer) (demand3-view (λ p. p) one (fresh-sound (λ p. p) 1) (n .pair) (c .known) L legal) (c .blocked);
+  fair-instead = c .fair-instead;
+  fair-later = c .fair-later;
+  blocked = c .blocked;
+}
 
 abbrev allShown : (l : List Need) → Test (AllShown l)
 allShown [] = yes tt
-allShown (n ∷ l) = both (shown n) (allShown l)
+allShown (n ∷ l) = both (so (shown n) (computes n)) (allShown l)
 
 computed : (allShown ofSendings .holds ≡ true) × (allShown ofCalls .holds ≡ true)
 unfolding if_then_else_ wrap ringPlus ringMinus nearest further sent granted endsAfter sequenceMet ackMet lifeOf withFin finsAfter openStage stageAfter sameSyn reply verdictUnanswered verdictByRanges verdictOn opened repeated answered carried passed finsOf stageOf firstFrom fromOpener fromAnswerer liveMatch vacant senderOf entryWith onEntry openingEntry unmatched onSegment sameFlow sentBy receivedBy highest some hasAnswer passes afterCall told

@@ -1,5 +1,5 @@
--- The premises of demand 3 are needed: for each, a list that is legal but for one event, which breaks it, and in which an arrival is then
--- blocked. All is computed, on a fresh table of one place. docs/DECISIONS.md names the premises of which no such list is known.
+-- Premises of demand 3 are needed: for each that a comment below names, a list that is legal but for one event, which breaks it, and in which
+-- an arrival is then blocked. All is on a fresh table of one place. docs/DECISIONS.md names the premises of which no such list is known.
 use Prim.Native.Nat.{ℕ, _-_, _^_}
 use mathlib.Core.Path.{_≡_}
 use mathlib.Core.List.{List, [], _∷_, _++_, reverse}
@@ -9,11 +9,11 @@ use Rattle.rows.specs.Rows.{View}
 use Rattle.rows.specs.Connections.{connections}
 use Rattle.rows.specs.Examples.{outward}
 use Rattle.honest.specs.Machine.{Machine}
-use Rattle.honest.specs.Rules.{Event, send, call, delivery, Pair}
+use Rattle.honest.specs.Rules.{opening, arrival, other, Event, send, call, delivery, Pair}
 use Rattle.honest.specs.Honest.{said, Fair, Legal}
 use Rattle.honest.specs.Instance.{ViewCall, viewMachine}
 use Rattle.honest.specs.Demand2.{fresh}
-use Rattle.honest.specs.Witness.{pair, Piece, opener's, answerer's, Seen, sends, opens, arrives, delivers, uncounted}
+use Rattle.honest.specs.Witness.{pair, Piece, opener's, answerer's, brings, Seen, sends, opens, arrives, delivers, uncounted}
 
 -- What a list shows; its parts are told oldest first
 pub record Need : Type 0 where
@@ -37,18 +37,21 @@ abbrev pub FairAfter : Pair → List Seen → List Seen → Type 0
 FairAfter P [] L = Unit {0}
 FairAfter P (x ∷ N) L = Fair M one P x (N ++ L) × FairAfter P N L
 
--- the answer to the newest event, if it is a call
-abbrev pub newestAnswer : List Seen → ℕ
-newestAnswer [] = 0
-newestAnswer (send p ∷ L) = 0
-newestAnswer (call q l ∷ L) = said M one L q .answer
-newestAnswer (delivery k p ∷ L) = 0
+-- the newest event is an arrival, with an answer that is no pass
+abbrev pub Blocked : List Seen → ℕ → Type 0
+Blocked [] answer = ⊥
+Blocked (send p ∷ L) answer = ⊥
+Blocked (call q (opening k p) ∷ L) answer = ⊥
+Blocked (call q (arrival k p) ∷ L) answer = (said M one L q .answer ≡ answer) × (answer ≡ 0 → ⊥)
+Blocked (call q other ∷ L) answer = ⊥
+Blocked (delivery k p ∷ L) answer = ⊥
 
 pub record Shown (n : Need) : Type 0 where
   pub legal-before : Legal M one (n .pair) (reverse (n .before))
+  pub not-fair : Fair M one (n .pair) (n .broken) (reverse (n .before)) → ⊥
   pub fair-instead : Fair M one (n .pair) (n .instead) (reverse (n .before))
   pub fair-later : FairAfter (n .pair) (reverse (n .later)) (n .broken ∷ reverse (n .before))
-  pub blocked : newestAnswer (reverse (n .later) ++ n .broken ∷ reverse (n .before)) ≡ n .answer
+  pub blocked : Blocked (reverse (n .later) ++ n .broken ∷ reverse (n .before)) (n .answer)
 
 abbrev pub AllShown : List Need → Type 0
 AllShown [] = Unit {0}
@@ -169,11 +172,14 @@ ofSendings =
 
 abbrev pub ofCalls : List Need
 ofCalls =
-    -- "each later than its sending": never sent
-    need handshake (comes 2 0 (opener's ACK 900000 0 1 1000 tt)) (comes 1 0 ack) [] 14
+    -- "An arrival is a call that brings an end's segment": one that brings another segment than it is called
+    need handshake (call (brings 0 (opener's ACK 900000 0 1 1000 tt)) (arrival 1 (ack .line))) (comes 1 0 ack) [] 14
+    -- "each later than its sending": before it
+    ∷ need synThrough (comes 1 0 ack) (comes 0 0 syn) [] 13
     -- "Each end's arrivals are its sendings in order": the opener's ACK comes after what was sent later
     ∷ need (handshake ++ openerAhead) (comes 1 0 ack) (comes 3 0 (opener's ACK 1001 1000 1 1000 tt)) [] 14
-    -- "The opening" is one: a second one, once the first has expired, and an answerer that goes on as if nothing had been
+    -- one call is the opening ("what passed on an earlier entry of the same ports doesn't count"): a second one, once the first has expired,
+    -- and an answerer that goes on as if nothing had been
     ∷ need handshake (opensAt 432000000 syn) (uncounted 432000000 syn)
     (sends (answerer's ACK 1 10 1 1000 tt) ∷ comes 1 432000000 (answerer's ACK 1 10 1 1000 tt) ∷ []) 13
     -- "that finds no live match": it passes on an earlier connection of the same ports, by its ranges
