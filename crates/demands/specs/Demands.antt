@@ -68,7 +68,7 @@ module _ (v : Version) where
 abbrev pub FreshIsZeros : Type 0
 FreshIsZeros = (n : ℕ) → freshBytes V4 n ≡ replicate (placeAt V4 n) 0
 
--- all three
+-- all three; the other half of demand 2, the round trips of trace lines, is in `trace/specs/RoundTrip`
 pub record Demands (v : Version) (read : List ℕ → PacketRead) : Type 0 where
   pub demand1 : Demand1OnBytes v read
   pub demand2 : Demand2OnBytes v read

@@ -1,5 +1,5 @@
--- What is asked of a reader (`ReaderOf`) is needed: of one that gives a wider window, or a wider address, than a packet's fields have, the
--- demands don't hold.
+-- Two of the conditions on a reader (`ReaderOf`) are needed: of one that gives a wider window, or a wider address, than a packet's fields have,
+-- the demands don't hold.
 use Prim.Native.Nat.{ℕ, _^_}
 use mathlib.Core.List.{List}
 use Rattle.address.specs.Flows.{endpoint, dotted, between}

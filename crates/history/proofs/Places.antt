@@ -20,7 +20,7 @@ use Rattle.connection.specs.declared.Verdict.{Verdict}
 use Rattle.connection.specs.declared.Verdict.the-variants.{Pass, SequenceMissed, AckMissed}
 use Rattle.history.specs.Numbers.{Numbers, boundsI-II, boundsIII-IV}
 use Rattle.history.specs.History.{LineSegment, numbersOf, stageOf, standsBy, placed, judge, Placeable}
-use Rattle.history.specs.Places.{MetFrom, AcksAt, OnePlace}
+use Rattle.history.specs.Places.{MetFrom, AcksAt, ByAllPlaces}
 use Rattle.history.specs.Demand2.{connectionAfter, historyAfter, openingHistory, Uniqueness}
 use Rattle.history.proofs.Step.{Near, start-near, ack-near, ackRange-small}
 use Rattle.history.proofs.Verdict.{Answered, spans}
@@ -126,8 +126,8 @@ module _
   acks : (A : ℕ) → AcksAt h i g A → y ≡ true
   acks A m = ap (boundsIII-IV ackRange (numbersOf (1 - i) h)) (sym (acked-is A m)) ∙ m .bounds
 
-  judged-one-place : OnePlace h i g (verdictNumber (judge h (placed h i g)))
-  judged-one-place =
+  judged-by-all-places : ByAllPlaces h i g (verdictNumber (judge h (placed h i g)))
+  judged-by-all-places =
       let n = number-by x (ack (g .flags) =ᵇ 1) y in
       let e = ap verdictNumber judged-by in
       record {
@@ -154,15 +154,15 @@ module _
       }
 
 -- after any history that a connection has come to
-pub one-place :
-    (h : List LineSegment) → Reached h → (stageOf h ≡ 1 → ⊥) → (i : ℕ) → i < 2 → (g : Segment) → Placeable g →
-    OnePlace h i g (verdictNumber (judge h (placed h i g)))
-one-place h (unanswered u turned) later i side g r = absurd (later (u .stage))
-one-place h (answered a turned) later i side g r = judged-one-place h a turned i side g r
+pub by-all-places :
+    (h : List LineSegment) → Reached h → 2 ≤ stageOf h → (i : ℕ) → i < 2 → (g : Segment) → Placeable g →
+    ByAllPlaces h i g (verdictNumber (judge h (placed h i g)))
+by-all-places h (unanswered u turned) later i side g r = absurd (omega (arith, u .stage, later))
+by-all-places h (answered a turned) later i side g r = judged-by-all-places h a turned i side g r
 
 pub uniqueness : Uniqueness
 uniqueness side g now placeable a-syn l legal no-reset later o next =
     let k = after-all (opened side g now) (openingHistory g) (holds-first side g now placeable a-syn) (reached-first side g now placeable a-syn) l legal no-reset in
     let h = historyAfter (openingHistory g) l in
     rw (judged (connectionAfter (opened side g now) l) h (k .0) (k .1) o next)
-    (one-place h (k .1) later (o .sender) (next .sender-known) (o .segment) (next .placeable))
+    (by-all-places h (k .1) later (o .sender) (next .sender-known) (o .segment) (next .placeable))

@@ -1,5 +1,5 @@
 -- Demand 2 for one connection: after any segments presented to it, its numbers and its next answer are the history's.
-use Prim.Native.Nat.{ℕ, _<_}
+use Prim.Native.Nat.{ℕ, _<_, _≤_}
 use mathlib.Core.Path.{_≡_}
 use mathlib.Core.Bool.{Bool}
 use mathlib.Core.List.{List, [], _∷_}
@@ -12,7 +12,7 @@ use Rattle.connection.specs.declared.Connection.{Connection}
 use Rattle.connection.specs.declared.Verdict.{Verdict}
 use Rattle.connection.specs.declared.Verdict.the-variants.{Pass}
 use Rattle.history.specs.History.{LineSegment, stageOf, placed, judge, Holds, Placeable}
-use Rattle.history.specs.Places.{OnePlace}
+use Rattle.history.specs.Places.{ByAllPlaces}
 
 -- a segment presented to a connection, of its opener or its answerer, at a clock used
 pub record Presented : Type 0 where
@@ -24,7 +24,7 @@ pub record Presentable (o : Presented) : Type 0 where
   pub sender-known : o .sender < 2
   pub placeable : Placeable (o .segment)
 
--- each of a list is legal
+-- each of a list is
 unfoldable pub AllPresentable : List Presented → Type 0
 AllPresentable [] = Unit {0}
 AllPresentable (o ∷ l) = Presentable o × AllPresentable l
@@ -76,7 +76,7 @@ pub record Agree (c : Connection) (h : List LineSegment) (o : Presented) : Type 
   pub answer : answerTo c o ≡ judgedOver h o
   pub freed : answerTo c o ≡ Pass → rst (o .segment .flags) ≡ 1 → leftBy c o ≡ free
 
--- from an opening SYN g on, after every list of legal presentations of which no reset passed, and at every next legal one
+-- from an opening SYN g on, after every list of presentable segments of which no reset passed, and at every next one
 abbrev pub Demand2OfConnection : Type 0
 Demand2OfConnection =
     (side : ℕ) (g : Segment) (now : ℕ) → Placeable g → g .flags ≡ SYN →
@@ -88,6 +88,6 @@ Demand2OfConnection =
 abbrev pub Uniqueness : Type 0
 Uniqueness =
     (side : ℕ) (g : Segment) (now : ℕ) → Placeable g → g .flags ≡ SYN →
-    (l : List Presented) → AllPresentable l → NoReset (openingHistory g) l → (stageOf (historyAfter (openingHistory g) l) ≡ 1 → ⊥) →
+    (l : List Presented) → AllPresentable l → NoReset (openingHistory g) l → 2 ≤ stageOf (historyAfter (openingHistory g) l) →
     (o : Presented) → Presentable o →
-    OnePlace (historyAfter (openingHistory g) l) (o .sender) (o .segment) (verdictNumber (answerTo (connectionAfter (opened side g now) l) o))
+    ByAllPlaces (historyAfter (openingHistory g) l) (o .sender) (o .segment) (verdictNumber (answerTo (connectionAfter (opened side g now) l) o))

@@ -1,7 +1,7 @@
 -- A history: the segments that passed on one connection, on the unwrapped line, newest first. The last is the opening SYN.
--- Its numbers, its window and bounds I to IV are its own. Shared with `connection` by definition are the rules that document 01 has once and
--- that no bound speaks of: the FIN bits and the stage after a segment (`finsAfter`, `stageAfter`), a stage's life (`lifeOf`, in `honest`),
--- and the constants 66,000 and 65,535.
+-- Its numbers, its window, bounds I to IV and the order of 13, 14 and 15 are its own. Shared with `connection` by definition are the tests of
+-- flags, the nearest place on the line (`nearest`, on which `further` rests), bound IV's 66,000, the FIN bits and the stage after a segment from
+-- stage 2 on (`finsAfter`, `stageAfter`), and a stage's life (`lifeOf`, in `honest`); over tables, all of `rows` but the verdict and what a pass leaves.
 use Prim.Native.Nat.{ℕ, _+_, _^_, _<_, _≤_, max}
 use mathlib.Core.Path.{_≡_}
 use mathlib.Core.Bool.{Bool, _&&_, _||_, not}
@@ -24,6 +24,7 @@ pub record LineSegment : Type 0 where
   pub from : ℕ
   pub flags : ℕ
   pub start : ℕ
+  -- n: payload octets plus one each for SYN and FIN
   pub length : ℕ
   pub acked : ℕ
   pub window : ℕ

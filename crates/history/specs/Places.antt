@@ -26,7 +26,7 @@ module _ (h : List LineSegment) (i : ℕ) (g : Segment) where
     pub bounds : boundsIII-IV ackRange (numbersOf (otherEnd i) h) A ≡ true
 
   -- what an answer says of them, from stage 2 on
-  pub record OnePlace (answer : ℕ) : Type 0 where
+  pub record ByAllPlaces (answer : ℕ) : Type 0 where
     -- each such place is the one that the segment is given: the nearest
     pub start-unique : (S : ℕ) → MetFrom S → S ≡ placed h i g .start
     pub acked-unique : (A : ℕ) → AcksAt A → A ≡ placed h i g .acked

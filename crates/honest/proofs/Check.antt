@@ -22,7 +22,7 @@ use Rattle.rows.specs.declared.Found.{Found}
 use Rattle.rows.specs.declared.Found.the-variants.{At, Nothing}
 use Rattle.history.specs.History.{LineSegment, onWire, Formed}
 use Rattle.honest.specs.Machine.{asks, Machine}
-use Rattle.honest.specs.Rules.{Label, opening, arrival, other, Is, Event, send, call, delivery, Pair, sideOf, keyOf, sentBy, Sent, Arrived, receivedBy, highest, some, ackOf, edgeOf, endOf, hasAnswer, OpenersSyn, AnswerersSynAck, LaterSegment, Allowed, openers-syn, answerers-syn-ack, later}
+use Rattle.honest.specs.Rules.{Label, opening, arrival, other, IsArrivalOf, Event, send, call, delivery, Pair, sideOf, keyOf, sentBy, Sent, Arrived, receivedBy, highest, some, ackOf, edgeOf, endOf, hasAnswer, OpenersSyn, AnswerersSynAck, LaterSegment, Allowed, openers-syn, answerers-syn-ack, later}
 use Rattle.honest.specs.Honest.{told, passes, Live, said, WasPassed, bringing, Arrives, InOrder, Opening, Arrival, FairCall, Fair, Legal}
 use Rattle.honest.specs.Instance.{ViewCall, viewMachine}
 use Rattle.honest.proofs.Sends.{NoneLater}
@@ -140,7 +140,7 @@ module _ (t₀ : View connections) (P : Pair) where
 
   abbrev openersSyn : (p : LineSegment) (L : Seen) → Test (OpenersSyn P p L)
   openersSyn p L =
-      so (λ h. record { by-opener = h .0; flags = h .1 .0; start = h .1 .1 .0; until-answer = h .1 .1 .1 })
+      so (λ h. record { by-opener = h .0; flags = h .1 .0; start = h .1 .1 .0; until-syn-ack = h .1 .1 .1 })
       (both (equal (p .from) 0)
       (both (equal (p .flags) SYN)
       (both (equal (p .start) (P .start 0)) (isFalse (hasAnswer 0 L)))))
@@ -153,7 +153,7 @@ module _ (t₀ : View connections) (P : Pair) where
         flags = h .1 .1 .0;
         start = h .1 .1 .1 .0;
         acks-syn = h .1 .1 .1 .1 .0;
-        until-answer = h .1 .1 .1 .1 .1;
+        until-ack = h .1 .1 .1 .1 .1;
       })
       (both (equal (p .from) 1)
       (both (isTrue (some (λ g. g .flags =ᵇ SYN) (receivedBy 1 L)))
@@ -261,7 +261,7 @@ module _ (t₀ : View connections) (P : Pair) where
   fairCall (arrival k p) q L = comes k p q L
   fairCall other q L = elsewhere q L
 
-  abbrev isLabel : (l : Label) (k : ℕ) (p : LineSegment) → Test (Is l k p)
+  abbrev isLabel : (l : Label) (k : ℕ) (p : LineSegment) → Test (IsArrivalOf l k p)
   isLabel (opening j g) k p = both (equal k j) (sameLine p g)
   isLabel (arrival j g) k p = both (equal k j) (sameLine p g)
   isLabel other k p = no

@@ -23,9 +23,9 @@ use Rattle.rows.proofs.Rows.{sender-known, onSegment-by-search, onEntry-by-verd
 use Rattle.history.specs.Numbers.{onRing}
 use Rattle.history.specs.History.{LineSegment, numbersOf, finsOf, stageOf, placed, judge, Holds, Placeable}
 use Rattle.history.proofs.Demand2.{Reached, unanswered, answered, judged, pass-holds, holds-first, reached-first}
-use Rattle.history.proofs.Places.{one-place}
+use Rattle.history.proofs.Places.{by-all-places}
 use Rattle.honest.specs.Histories.{History, grown, histories, recordsOf, connectionOf}
-use Rattle.honest.specs.Demand2.{fresh, viewAfter, AllPlaceable, ByAllPlaces, Demand2}
+use Rattle.honest.specs.Demand2.{fresh, viewAfter, AllPlaceable, AnswersByAllPlaces, Demand2}
 use Rattle.honest.proofs.Arrival.{passed-renewed}
 use Rattle.honest.proofs.Simulation.{Agreeing, Related, Alike, answer-alike, place-alike, after-alike, filter-same}
 use Rattle.honest.proofs.SoundKept.{reset-frees}
@@ -172,7 +172,7 @@ tables-related n (a ∷ l) placeable =
 -- on an entry that was found, from stage 2 on, the answer speaks of all places
 places-related :
     (t : View connections) (u : View histories) → Related Stands t u → (a : Ask) → Placeable (a .segment) →
-    ByAllPlaces u a (answerOf connections (filter connections t a))
+    AnswersByAllPlaces u a (answerOf connections (filter connections t a))
 places-related t u related a placeable p m =
     let now = clockUsed histories u a in
     let f = u .entry p in
@@ -186,7 +186,7 @@ places-related t u related a placeable p m =
     answer-alike Stands (filter connections t a) (filter histories u a) (same-outcome t u related a placeable)
     ∙ ap (answerOf histories) (by-match ∙ by-entry)
     ∙ answer-by-verdict histories (judge h (placed h i g)) p now _ in
-    rw answer (one-place h (related .entries p .reached (omega (arith, live))) (m .stage) i (sender-known histories f (a .side)) g placeable)
+    rw answer (by-all-places h (related .entries p .reached (omega (arith, live))) (m .stage) i (sender-known histories f (a .side)) g placeable)
 
 pub demand2 : Demand2
 demand2 n l placeable =

@@ -85,7 +85,7 @@ module _ {Call : Type 0} (P : Pair) (p : LineSegment) (L : List (Event Call)) wh
         start = r .start ∙ ap (P .start) (sym end);
         acks = λ answerer. absurd (omega arith);
       }
-      (subst (λ (i : ℕ). hasAnswer i L ≡ false) (sym end) (r .until-answer))
+      (subst (λ (i : ℕ). hasAnswer i L ≡ false) (sym end) (r .until-syn-ack))
   sending (answerers-syn-ack r) =
       let end = r .by-answerer in
       first (omega arith)
@@ -94,7 +94,7 @@ module _ {Call : Type 0} (P : Pair) (p : LineSegment) (L : List (Event Call)) wh
         start = r .start ∙ ap (P .start) (sym end);
         acks = λ answerer. r .acks-syn;
       }
-      (subst (λ (i : ℕ). hasAnswer i L ≡ false) (sym end) (r .until-answer))
+      (subst (λ (i : ℕ). hasAnswer i L ≡ false) (sym end) (r .until-ack))
   sending (later r) = after r
 
 -- the acknowledgement of a segment of end j

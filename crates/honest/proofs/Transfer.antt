@@ -65,7 +65,7 @@ module _ (M : Machine) where
 
   allowed-carried : (P : Pair) (p : LineSegment) {L : Carrying} {N : Carried} → Carries M L N → Allowed P p N → Allowed P p L
   allowed-carried P p c (openers-syn r) =
-      openers-syn record { by-opener = r .by-opener; flags = r .flags; start = r .start; until-answer = answered-same 0 c ∙ r .until-answer }
+      openers-syn record { by-opener = r .by-opener; flags = r .flags; start = r .start; until-syn-ack = answered-same 0 c ∙ r .until-syn-ack }
   allowed-carried P p c (answerers-syn-ack r) =
       answerers-syn-ack record {
         by-answerer = r .by-answerer;
@@ -73,7 +73,7 @@ module _ (M : Machine) where
         flags = r .flags;
         start = r .start;
         acks-syn = r .acks-syn;
-        until-answer = answered-same 1 c ∙ r .until-answer;
+        until-ack = answered-same 1 c ∙ r .until-ack;
       }
   allowed-carried P p c (later r) =
       later record {

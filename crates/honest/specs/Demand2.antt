@@ -1,6 +1,6 @@
 -- Demand 2 over lists of calls: the table always is the histories' in numbers, and each answer and place is what the histories give.
 -- Lists are newest first: in a ∷ l, a comes after all of l.
-use Prim.Native.Nat.{ℕ}
+use Prim.Native.Nat.{ℕ, _≤_}
 use mathlib.Core.Path.{_≡_}
 use mathlib.Core.List.{List, [], _∷_}
 use Rattle.rows.specs.Rows as rows
@@ -8,7 +8,7 @@ use Rattle.rows.specs.Rows.{Bodies, Ask, View, Outcome, freeEntry, clockUsed, s
 use Rattle.rows.specs.Connections.{connections}
 use Rattle.rows.specs.declared.Found.the-variants.{At}
 use Rattle.history.specs.History.{stageOf, Placeable}
-use Rattle.history.specs.Places.{OnePlace}
+use Rattle.history.specs.Places.{ByAllPlaces}
 use Rattle.honest.specs.Machine.{Reading, refused, asks, apart, Machine}
 use Rattle.honest.specs.Histories.{histories, inNumbers}
 
@@ -32,15 +32,15 @@ AllPlaceable [] = Unit {0}
 AllPlaceable (a ∷ l) = Placeable (a .segment) × AllPlaceable l
 
 -- a call has found the history at place p, from stage 2 on
-pub record MatchedLater (v : View histories) (a : Ask) (p : ℕ) : Type 0 where
+pub record FoundFromStage2 (v : View histories) (a : Ask) (p : ℕ) : Type 0 where
   pub match : rows.search histories v (clockUsed histories v a) (a .side) (a .key) ≡ At p
-  pub stage : stageOf (v .entry p .connection .segments) ≡ 1 → ⊥
+  pub stage : 2 ≤ stageOf (v .entry p .connection .segments)
 
 -- then the answer speaks of all places on the line that have the segment's 32 bits: 14 says that no place at all meets I and II
-abbrev pub ByAllPlaces : View histories → Ask → (answer : ℕ) → Type 0
-ByAllPlaces v a answer =
-    (p : ℕ) → MatchedLater v a p →
-    OnePlace (v .entry p .connection .segments) (senderOf histories (v .entry p) (a .side)) (a .segment) answer
+abbrev pub AnswersByAllPlaces : View histories → Ask → (answer : ℕ) → Type 0
+AnswersByAllPlaces v a answer =
+    (p : ℕ) → FoundFromStage2 v a p →
+    ByAllPlaces (v .entry p .connection .segments) (senderOf histories (v .entry p) (a .side)) (a .segment) answer
 
 -- after a list of calls the table is that of the histories in numbers, and the next call has the answer and the place that they give,
 -- whatever the numbers of the places are
@@ -54,7 +54,7 @@ pub record FollowsHistories (n : ℕ) (l : List Ask) : Type 0 where
       placeBy number (outcomeAfter connections n l a) ≡ placeBy number (outcomeAfter histories n l a)
   pub all-places :
       (a : Ask) → Placeable (a .segment) →
-      ByAllPlaces (viewAfter histories n l) a (answerOf connections (outcomeAfter connections n l a))
+      AnswersByAllPlaces (viewAfter histories n l) a (answerOf connections (outcomeAfter connections n l a))
 
 -- from the fresh table of any number of places, after every list of well-formed calls
 abbrev pub Demand2 : Type 0
@@ -91,7 +91,7 @@ module _ (M : Machine) (s₀ : M .State) where
         M .run (stateAfter l) q .place ≡ placeBy (M .number) (outcomeAfter histories n (asked M l) a)
     pub all-places :
         (q : M .Call) (a : Ask) → M .reads q ≡ asks a →
-        ByAllPlaces (viewAfter histories n (asked M l)) a (M .run (stateAfter l) q .answer)
+        AnswersByAllPlaces (viewAfter histories n (asked M l)) a (M .run (stateAfter l) q .answer)
     pub refusal-answer : (q : M .Call) (m : ℕ) → M .reads q ≡ refused m → M .run (stateAfter l) q .answer ≡ m
     pub refusal-place : (q : M .Call) (m : ℕ) → M .reads q ≡ refused m → M .run (stateAfter l) q .place ≡ nowhere
     pub apart-stays : (q : M .Call) → M .reads q ≡ apart → M .view (M .run (stateAfter l) q .next) ≡ M .view (stateAfter l)

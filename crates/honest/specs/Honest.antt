@@ -1,5 +1,5 @@
--- Demand 3 (document 01, "Honest ends"): "a single claim about the list of events and not one for each call". Lists are newest first. In
--- document 01's order, with its sentences above what states them.
+-- Demand 3 (document 01, "Honest ends"): "a single claim about the list of events and not one for each call". Lists are newest first. Its
+-- sentences stand above what states them, in its order but for what needs another first.
 use Prim.Native.Nat.{ℕ, _+_, _≤_, _<_, max}
 use mathlib.Core.Path.{_≡_}
 use mathlib.Core.Logic.{_⊎_}
@@ -13,13 +13,24 @@ use Rattle.rows.specs.Rows.{Ask, FindsNone, nowhere}
 use Rattle.rows.specs.Connections.{connections}
 use Rattle.history.specs.History.{LineSegment, onWire, stageOf}
 use Rattle.honest.specs.Machine.{Said, asks, apart, Machine, clockIn}
-use Rattle.honest.specs.Rules.{Label, opening, arrival, other, Is, Event, send, call, delivery, Pair, sideOf, keyOf, Sent, Arrived, Honest}
+use Rattle.honest.specs.Rules.{Label, opening, arrival, other, IsArrivalOf, Event, send, call, delivery, Pair, sideOf, keyOf, Sent, Arrived, Honest}
 
 module _ (M : Machine) where
   abbrev pub Events : Type 0
   Events = List (Event (M .Call))
 
-  -- What the calls tell
+  -- "An arrival is a call that brings an end's segment of this connection, its numbers modulo 2^32, with that end's side .. and a clock
+  -- under 2^48." (A larger clock is refused, and asks nothing)
+  abbrev pub bringing : Pair → LineSegment → (clock : ℕ) → Ask
+  bringing P p clock = record { side = sideOf P (p .from); clock = clock; key = keyOf P (p .from); segment = onWire p }
+
+  pub record Arrives (P : Pair) (k : ℕ) (p : LineSegment) (q : M .Call) (L : Events) : Type 0 where
+    -- "each later than its sending"
+    pub sent : Sent k p L
+    pub clock : ℕ
+    pub brings : M .reads q ≡ asks (bringing P p clock)
+
+  -- What the calls tell, one after the other
 
   pub record Told : Type 0 where
     -- the table that the last call left
@@ -81,31 +92,23 @@ module _ (M : Machine) where
     abbrev pub said : Events → M .Call → Said (M .State)
     said L q = M .run (told L .state) q
 
-    -- "an arrival of it, the opening or a later one, was answered 0": of an end's k-th sending, p
-    abbrev pub WasPassed : ℕ → LineSegment → Events → Type 0
-    WasPassed k p [] = ⊥
-    WasPassed k p (send g ∷ L) = WasPassed k p L
-    WasPassed k p (call q l ∷ L) = (Is l k p × (passes (told L) q ≡ true)) ⊎ WasPassed k p L
-    WasPassed k p (delivery j g ∷ L) = WasPassed k p L
-
-  -- "An arrival is a call that brings an end's segment of this connection, its numbers modulo 2^32, with that end's side .. and a clock
-  -- under 2^48." (A larger clock is refused, and asks nothing)
-  abbrev pub bringing : Pair → LineSegment → (clock : ℕ) → Ask
-  bringing P p clock = record { side = sideOf P (p .from); clock = clock; key = keyOf P (p .from); segment = onWire p }
-
-  pub record Arrives (P : Pair) (k : ℕ) (p : LineSegment) (q : M .Call) (L : Events) : Type 0 where
-    -- "each later than its sending"
-    pub sent : Sent k p L
-    pub clock : ℕ
-    pub brings : M .reads q ≡ asks (bringing P p clock)
-
   -- "Asked of the list:"
 
   -- "Each end's arrivals are its sendings in order, .. some left out, some several times in a row.": of end i, none after its k-th has arrived
   abbrev pub InOrder : (i k : ℕ) → Events → Type 0
   InOrder i k L = (j : ℕ) (g : LineSegment) → Arrived j g L → g .from ≡ i → j ≤ k
 
-  -- a call is passed on the opening's entry, by its place
+  module _ (s₀ : M .State) (P : Pair) where
+    -- "The opening is an arrival of the opener's SYN that finds no live match and is answered 0." The list names one
+    pub record Opening (k : ℕ) (p : LineSegment) (q : M .Call) (L : Events) : Type 0 where
+      pub first-one : told s₀ L .openingSeen ≡ false
+      pub arrives : Arrives P k p q L
+      pub by-opener : p .from ≡ opener
+      pub is-syn : p .flags ≡ SYN
+      pub finds-none : FindsNone connections (M .view (told s₀ L .state)) (bringing P p (arrives .clock))
+      pub answered-0 : passes (told s₀ L) q ≡ true
+
+  -- "a call that is no arrival may give anything, but isn't passed on the opening's entry": that it is, by its place
   pub record PassedOnOurs (t : Told) (q : M .Call) : Type 0 where
     pub after-opening : t .openingSeen ≡ true
     -- once that entry has expired, its place may be another's
@@ -115,16 +118,15 @@ module _ (M : Machine) where
     pub answered-0 : passes t q ≡ true
     pub place : M .run (t .state) q .place ≡ t .place
 
-  module _ (s₀ : M .State) (P : Pair) where
-    -- "The opening is an arrival of the opener's SYN that finds no live match and is answered 0."
-    pub record Opening (k : ℕ) (p : LineSegment) (q : M .Call) (L : Events) : Type 0 where
-      pub first-one : told s₀ L .openingSeen ≡ false
-      pub arrives : Arrives P k p q L
-      pub by-opener : p .from ≡ opener
-      pub is-syn : p .flags ≡ SYN
-      pub finds-none : FindsNone connections (M .view (told s₀ L .state)) (bringing P p (arrives .clock))
-      pub answered-0 : passes (told s₀ L) q ≡ true
+  module _ (s₀ : M .State) where
+    -- "an arrival of it, the opening or a later one, was answered 0": of an end's k-th sending, p
+    abbrev pub WasPassed : ℕ → LineSegment → Events → Type 0
+    WasPassed k p [] = ⊥
+    WasPassed k p (send g ∷ L) = WasPassed k p L
+    WasPassed k p (call q l ∷ L) = (IsArrivalOf l k p × (passes (told s₀ L) q ≡ true)) ⊎ WasPassed k p L
+    WasPassed k p (delivery j g ∷ L) = WasPassed k p L
 
+  module _ (s₀ : M .State) (P : Pair) where
     -- an arrival after it: in order, and "At each arrival after the opening the connection is live, told from the calls"
     pub record Arrival (k : ℕ) (p : LineSegment) (q : M .Call) (L : Events) : Type 0 where
       pub after-opening : told s₀ L .openingSeen ≡ true
@@ -133,9 +135,9 @@ module _ (M : Machine) where
       pub live : Live (told s₀ L) q
 
     abbrev pub FairCall : Label → M .Call → Events → Type 0
-    FairCall (opening k p) q L = Opening k p q L
+    FairCall (opening k p) q L = Opening s₀ P k p q L
     FairCall (arrival k p) q L = Arrival k p q L
-    -- "After the opening, a call that is no arrival may give anything, but isn't passed on the opening's entry."
+    -- "After the opening, a call that is no arrival .. isn't passed on the opening's entry."
     FairCall other q L = PassedOnOurs (told s₀ L) q → ⊥
 
     abbrev pub Fair : Event (M .Call) → Events → Type 0

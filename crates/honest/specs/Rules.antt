@@ -25,10 +25,10 @@ pub data Label : Type 0 where
   other : Label
 
 -- the call is an arrival of its end's k-th sending, p
-abbrev pub Is : Label → ℕ → LineSegment → Type 0
-Is (opening j g) k p = (k ≡ j) × (p ≡ g)
-Is (arrival j g) k p = (k ≡ j) × (p ≡ g)
-Is other k p = ⊥
+abbrev pub IsArrivalOf : Label → ℕ → LineSegment → Type 0
+IsArrivalOf (opening j g) k p = (k ≡ j) × (p ≡ g)
+IsArrivalOf (arrival j g) k p = (k ≡ j) × (p ≡ g)
+IsArrivalOf other k p = ⊥
 
 -- an end sends a segment; the filter is called; an end's k-th sending comes to the other end
 pub data Event (Call : Type 0) : Type 0 where
@@ -70,7 +70,7 @@ module _ {Call : Type 0} where
   abbrev pub Arrived : ℕ → LineSegment → List (Event Call) → Type 0
   Arrived k p [] = ⊥
   Arrived k p (send g ∷ L) = Arrived k p L
-  Arrived k p (call q l ∷ L) = Is l k p ⊎ Arrived k p L
+  Arrived k p (call q l ∷ L) = IsArrivalOf l k p ⊎ Arrived k p L
   Arrived k p (delivery j g ∷ L) = Arrived k p L
 
   -- what end i has received, newest first. "'received' means passed by the gate on this connection, from the opening SYN that made its entry
@@ -81,7 +81,7 @@ module _ {Call : Type 0} where
   receivedBy i (call q l ∷ L) = receivedBy i L
   receivedBy i (delivery k p ∷ L) = if p .from =ᵇ i then receivedBy i L else p ∷ receivedBy i L
 
--- the highest of a number over segments, 0 over none
+-- the highest of a number over segments, 0 over none: an end that may send more than its first segment has received one (`after-answer`)
 unfoldable pub highest : (LineSegment → ℕ) → List LineSegment → ℕ
 highest f [] = 0
 highest f (p ∷ l) = max (f p) (highest f l)
@@ -114,7 +114,7 @@ module _ (P : Pair) {Call : Type 0} (p : LineSegment) (L : List (Event Call)) wh
     pub by-opener : p .from ≡ opener
     pub flags : p .flags ≡ SYN
     pub start : p .start ≡ P .start opener
-    pub until-answer : hasAnswer opener L ≡ false
+    pub until-syn-ack : hasAnswer opener L ≡ false
 
   -- "The answerer, having received the SYN, sends SYN+ACK acknowledging the SYN's end, and repeats only that until it receives an ACK."
   pub record AnswerersSynAck : Type 0 where
@@ -123,7 +123,7 @@ module _ (P : Pair) {Call : Type 0} (p : LineSegment) (L : List (Event Call)) wh
     pub flags : p .flags ≡ SYN+ACK
     pub start : p .start ≡ P .start answerer
     pub acks-syn : p .acked ≡ P .start opener + 1
-    pub until-answer : hasAnswer answerer L ≡ false
+    pub until-ack : hasAnswer answerer L ≡ false
 
   -- "Every later segment has ACK and no SYN,"
   pub record LaterSegment : Type 0 where

@@ -43,7 +43,7 @@ lastAt = 63
 unfoldable pub headerClock : List ℕ → ℕ
 headerClock t = bigEndian 8 t clockAt
 
--- "1 in an IPv6 table and 0 otherwise"
+-- document 02, item 14: "1 in an IPv6 table and 0 otherwise"
 abbrev pub versionByte : Version → ℕ
 versionByte V4 = 0
 versionByte V6 = 1
