@@ -13,7 +13,7 @@ use tables::CLOCK;
 
 extern "C" {
     fn qb_filter(
-        side: u8,
+        side: u32,
         clock: u64,
         table: *mut u8,
         table_len: usize,
@@ -22,7 +22,7 @@ extern "C" {
     ) -> u32;
     #[cfg(before)]
     fn qb_filter_before(
-        side: u8,
+        side: u32,
         clock: u64,
         table: *mut u8,
         table_len: usize,
@@ -41,7 +41,7 @@ const LINE: usize = 64;
 /// An implementation, called in its own shape, so that neither pays for the other's.
 trait Filter {
     type Given;
-    fn call(side: u8, clock: u64, table: &mut [u8], packet: &[u8]) -> Self::Given;
+    fn call(side: u32, clock: u64, table: &mut [u8], packet: &[u8]) -> Self::Given;
     fn answer_and_place(given: Self::Given) -> (u32, u32);
 }
 
@@ -51,7 +51,7 @@ struct Reference;
 impl Filter for Ours {
     type Given = u32;
 
-    fn call(side: u8, clock: u64, table: &mut [u8], packet: &[u8]) -> u32 {
+    fn call(side: u32, clock: u64, table: &mut [u8], packet: &[u8]) -> u32 {
         // The two slices are valid for their lengths and do not overlap.
         unsafe {
             qb_filter(
@@ -74,7 +74,7 @@ impl Filter for Ours {
 impl Filter for Reference {
     type Given = u32;
 
-    fn call(side: u8, clock: u64, table: &mut [u8], packet: &[u8]) -> u32 {
+    fn call(side: u32, clock: u64, table: &mut [u8], packet: &[u8]) -> u32 {
         // As above.
         unsafe {
             qb_filter_before(
@@ -97,7 +97,7 @@ impl Filter for Reference {
 impl Filter for Reference {
     type Given = (u32, u32);
 
-    fn call(side: u8, clock: u64, table: &mut [u8], packet: &[u8]) -> (u32, u32) {
+    fn call(side: u32, clock: u64, table: &mut [u8], packet: &[u8]) -> (u32, u32) {
         reference::filter::filter(side, clock, table, packet)
     }
 

@@ -5,7 +5,7 @@ use packets::{names, Draft, ACK, SHORT_HEADER, SYN};
 use reference::trace::{write_line, LONGEST_LINE};
 use std::io::{stdout, BufWriter, Write};
 
-fn line(side: u8, draft: &Draft) -> Vec<u8> {
+fn line(side: u32, draft: &Draft) -> Vec<u8> {
     let mut line = vec![0; LONGEST_LINE];
     let written = write_line(side, 0, &draft.packet(), &mut line);
     assert_eq!(written.answer, 0);

@@ -6,7 +6,7 @@ use reference::traffic::{calls, Call};
 
 extern "C" {
     fn qb_filter(
-        side: u8,
+        side: u32,
         clock: u64,
         table: *mut u8,
         table_len: usize,

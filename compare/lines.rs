@@ -23,7 +23,7 @@ extern "C" {
         offset: *mut usize,
     ) -> u32;
     fn qb_write_line(
-        side: u8,
+        side: u32,
         clock: u64,
         packet: *const u8,
         packet_len: usize,
@@ -63,7 +63,7 @@ fn library_read(line: &[u8], packet: &mut [u8]) -> LineRead {
     read
 }
 
-fn library_write(side: u8, clock: u64, packet: &[u8], line: &mut [u8]) -> LineWrite {
+fn library_write(side: u32, clock: u64, packet: &[u8], line: &mut [u8]) -> LineWrite {
     let mut length = usize::MAX;
     // The references are valid for their lengths and do not overlap.
     let answer = unsafe {
@@ -170,9 +170,9 @@ fn compare_read(random: &mut Random) -> u32 {
 
 fn compare_write(random: &mut Random) -> u32 {
     let side = match random.below(16) {
-        0 => 2,
-        1 => random.next() as u8,
-        other => (other % 2) as u8,
+        0 => random.pick(&[2, 3, 255, 256, 257, 65_536, 65_537, u32::MAX]),
+        1 => random.next() as u32,
+        other => (other % 2) as u32,
     };
     let clock = match random.below(16) {
         0 => 1 << 48,

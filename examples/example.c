@@ -46,5 +46,11 @@ int main(void) {
         }
     }
     printf("passed %zu of %zu\n", passed, lines);
+
+    /* A side is not cut to fewer bits: 256 is answered 1, not as side 0. */
+    if (qb_answer(qb_filter(256, 0, table, sizeof table, (const uint8_t *)trace[0], 0)) != 1) {
+        fprintf(stderr, "side 256 is not answered 1\n");
+        return 1;
+    }
     return 0;
 }

@@ -7,7 +7,7 @@ mod quaybonnet {
     mod c {
         extern "C" {
             pub fn qb_filter(
-                side: u8,
+                side: u32,
                 clock: u64,
                 table: *mut u8,
                 table_len: usize,
@@ -25,7 +25,7 @@ mod quaybonnet {
                 offset: *mut usize,
             ) -> u32;
             pub fn qb_write_line(
-                side: u8,
+                side: u32,
                 clock: u64,
                 packet: *const u8,
                 packet_len: usize,
@@ -45,7 +45,7 @@ mod quaybonnet {
     }
 
     /// The answer and, on answer 0, the place.
-    pub fn filter(side: u8, clock: u64, table: &mut [u8], packet: &[u8]) -> (u32, Option<u32>) {
+    pub fn filter(side: u32, clock: u64, table: &mut [u8], packet: &[u8]) -> (u32, Option<u32>) {
         let result = unsafe {
             c::qb_filter(
                 side,
@@ -103,7 +103,7 @@ mod quaybonnet {
         let mut length = 0;
         let number = unsafe {
             c::qb_write_line(
-                frame.side,
+                frame.side.into(),
                 frame.clock,
                 frame.packet.as_ptr(),
                 frame.packet.len(),
@@ -135,7 +135,8 @@ fn main() -> Result<(), String> {
             format!("not read, {} at {}: {line}", unread.number, unread.offset)
         })?;
 
-        let (answer, place) = quaybonnet::filter(frame.side, frame.clock, &mut table, frame.packet);
+        let (answer, place) =
+            quaybonnet::filter(frame.side.into(), frame.clock, &mut table, frame.packet);
         match place {
             Some(place) => println!("{answer} {place}"),
             None => println!("{answer} -"),

@@ -27,8 +27,7 @@ extern "C" {
  * Asks the filter about one packet: the side that it came from (0 or 1), a clock in ms, the table, the packet from its IPv4 header on.
  * Returns answer * 65536 + place. On answer 0 the packet may pass, and the header clock and the entry at that place have been written;
  * on every other it is to be dropped, the place is QB_NO_PLACE, and no byte of the table has changed. The packet is only read.
- * Any side, clock, lengths and bytes are answered; a side over 255 is cut to 8 bits by C before the call. The answer is the first of these
- * that applies:
+ * Any side, clock, lengths and bytes are answered. The answer is the first of these that applies:
  *    1  side is not 0 or 1
  *    2  clock is 2^48 ms or more
  *    3  table_len is not QB_TABLE_LENGTH(n) with n from 1 to 512
@@ -46,7 +45,7 @@ extern "C" {
  *   15  the acknowledgement number is out of range
  *    0  otherwise: passed
  */
-uint32_t qb_filter(uint8_t side, uint64_t clock, uint8_t *table, size_t table_len, const uint8_t *packet, size_t packet_len);
+uint32_t qb_filter(uint32_t side, uint64_t clock, uint8_t *table, size_t table_len, const uint8_t *packet, size_t packet_len);
 
 /* What qb_filter returned, taken apart. */
 static inline uint32_t qb_answer(uint32_t result) { return result / 65536; }
@@ -81,7 +80,7 @@ uint32_t qb_read_line(const uint8_t *line, size_t line_len, uint8_t *packet, siz
  * stored; what it was before does not matter.
  * Any side, clock, lengths and bytes are answered.
  */
-uint32_t qb_write_line(uint8_t side, uint64_t clock, const uint8_t *packet, size_t packet_len, uint8_t *line, size_t room, size_t *length);
+uint32_t qb_write_line(uint32_t side, uint64_t clock, const uint8_t *packet, size_t packet_len, uint8_t *line, size_t room, size_t *length);
 
 #ifdef __cplusplus
 }

@@ -35,7 +35,7 @@ struct Pass {
 }
 
 /// Gives the answer and the place.
-pub fn filter(side: u8, clock: u64, table: &mut [u8], packet: &[u8]) -> (u32, u32) {
+pub fn filter(side: u32, clock: u64, table: &mut [u8], packet: &[u8]) -> (u32, u32) {
     match decide(side, clock, table, packet) {
         Ok(pass) => {
             table::store(table, pass.clock_used, pass.place, &pass.entry);
@@ -47,10 +47,11 @@ pub fn filter(side: u8, clock: u64, table: &mut [u8], packet: &[u8]) -> (u32, u3
 
 /// The rows in their order. The table is only read: a refusal "changes no byte
 /// of the table".
-fn decide(side: u8, clock: u64, table: &[u8], packet: &[u8]) -> Result<Pass, u32> {
+fn decide(side: u32, clock: u64, table: &[u8], packet: &[u8]) -> Result<Pass, u32> {
     if side > 1 {
         return Err(BAD_SIDE);
     }
+    let side = side as u8;
     if clock >= table::CLOCK_LIMIT {
         return Err(BAD_CLOCK);
     }

@@ -101,7 +101,7 @@ pub fn read_line(line: &[u8], packet: &mut [u8]) -> LineRead {
 /// Writes a line without a newline. "Writing refuses: 1, 2, then 24 packet
 /// empty or over 2,048, then 23. In this order; a refusal writes nothing and
 /// gives length 0 [...]. Output bytes past the length stay as they were."
-pub fn write_line(side: u8, clock: u64, packet: &[u8], line: &mut [u8]) -> LineWrite {
+pub fn write_line(side: u32, clock: u64, packet: &[u8], line: &mut [u8]) -> LineWrite {
     let refused = |answer| LineWrite { answer, length: 0 };
     if side > 1 {
         return refused(BAD_SIDE);
@@ -176,7 +176,7 @@ mod tests {
         for (length, clock) in [1, 2, 255, LONGEST_PACKET].into_iter().zip(clocks) {
             for side in 0..=1 {
                 let mut line = [b'.'; LONGEST_LINE];
-                let written = write_line(side, clock, &packet[..length], &mut line);
+                let written = write_line(side.into(), clock, &packet[..length], &mut line);
                 assert_eq!(written.answer, 0);
                 let mut back = [0; LONGEST_PACKET];
                 let read = read_line(&line[..written.length], &mut back);
@@ -204,7 +204,7 @@ mod tests {
                 let mut packet = [0; 2];
                 let read = read_line(&line, &mut packet);
                 let mut back = [0; 19];
-                let written = write_line(read.side, read.clock, &packet, &mut back);
+                let written = write_line(read.side.into(), read.clock, &packet, &mut back);
                 assert_eq!(written.answer, 0);
                 assert_eq!(read.answer == 0, back == line);
                 if read.answer != 0 {

@@ -52,7 +52,7 @@ impl TraceRun {
             return refused(&read);
         }
         let packet = &self.packet[..read.length];
-        let (answer, place) = filter(read.side, read.clock, &mut self.table, packet);
+        let (answer, place) = filter(read.side.into(), read.clock, &mut self.table, packet);
         self.passed += u64::from(answer == PASSED);
         LineAnswer {
             answer,

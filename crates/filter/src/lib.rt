@@ -279,7 +279,7 @@ fn on_read(
 }
 
 // Rows 1 to 4: the number of the first that applies, or 0.
-fn table_refusal(version: Version, side: u8, clock: u64, table: &[u8]) -> u32
+fn table_refusal(version: Version, side: u32, clock: u64, table: &[u8]) -> u32
     ensures { λ r. ⌜ r ≡ tableRefusal version side clock (now (table .entry)) ⌝ }
 {
     if 1 < side {
@@ -298,19 +298,21 @@ fn table_refusal(version: Version, side: u8, clock: u64, table: &[u8]) -> u32
 }
 
 // What a call comes to that rows 1 to 4 don't refuse.
-fn decide(version: Version, side: u8, clock: u64, table: &[u8], read: PacketRead) -> Decision
+fn decide(version: Version, side: u32, clock: u64, table: &[u8], read: PacketRead) -> Decision
     requires { ⌜ tableRefusal version side clock (now table) ≡ 0 ⌝ }
     ensures { λ r. ⌜ r ≡ decisionOf (outcomeOf version side clock (now (table .entry)) read) ⌝ }
 {
     let places = places_for(version, table.len());
     let used = clock_used(table, clock);
+    // By row 1 it is 0 or 1.
+    let side = side as u8;
     on_read(version, table, places, used, side, read)
 }
 
 // The answer and the place of such a call, and the table that it leaves.
 fn on_sound_table(
     version: Version,
-    side: u8,
+    side: u32,
     clock: u64,
     table: &mut [u8],
     read: PacketRead,
@@ -329,7 +331,7 @@ fn on_sound_table(
 
 // One call of the IPv4 filter: the answer and the place, and the table that it leaves. The packet is read after rows 1 to 4, in the list's
 // order; read before them, a scan of one place takes 1.1 times as long.
-pub fn filter_ipv4(side: u8, clock: u64, table: &mut [u8], packet: &[u8]) -> Reply
+pub fn filter_ipv4(side: u32, clock: u64, table: &mut [u8], packet: &[u8]) -> Reply
     ensures { λ r. let o = ipv4Outcome side clock (now (table .entry)) (now (packet .entry)) in
         ⌜ (r ≡ replyOf o) × (now (table .exit) ≡ tableAfter Version.V4 (now (table .entry)) o) ⌝ }
 {

@@ -17,7 +17,7 @@ fn pack(answer: u32, place: usize) -> u32
 
 // One call of the filter: answer·65,536 + place.
 #[no_mangle]
-pub extern "C" fn qb_filter(side: u8, clock: u64, table: &mut [u8], packet: &[u8]) -> u32
+pub extern "C" fn qb_filter(side: u32, clock: u64, table: &mut [u8], packet: &[u8]) -> u32
     ensures { λ r. let o = ipv4Outcome side clock (now (table .entry)) (now (packet .entry)) in
         ⌜ (r ≡ packed (replyOf o)) × (now (table .exit) ≡ tableAfter Version.V4 (now (table .entry)) o) ⌝ }
 {
@@ -54,7 +54,7 @@ pub extern "C" fn qb_read_line(
 // Writes a packet as a trace line: 0, 1, 2, 24 or 23. The length is stored on every answer.
 #[no_mangle]
 pub extern "C" fn qb_write_line(
-    side: u8,
+    side: u32,
     clock: u64,
     packet: &[u8],
     line: &mut [u8],

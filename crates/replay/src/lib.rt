@@ -146,7 +146,7 @@ fn answer_line(text: &[u8], packet: &mut Packet, table: &mut [u8]) -> Answered
             length,
         } => {
             let bytes = &packet[..];
-            let reply = filter::filter_ipv4(side, clock, table, &bytes[0..length]);
+            let reply = filter::filter_ipv4(side as u32, clock, table, &bytes[0..length]);
             Answered {
                 answer: reply.answer,
                 shown: report::shown_place(reply.place),

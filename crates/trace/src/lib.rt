@@ -308,7 +308,7 @@ fn write_fields(side: u8, clock: u64, packet: &[u8], line: &mut [u8])
 }
 
 // Writes the line of a packet.
-pub fn write_line(side: u8, clock: u64, packet: &[u8], line: &mut [u8]) -> LineWrite
+pub fn write_line(side: u32, clock: u64, packet: &[u8], line: &mut [u8]) -> LineWrite
     ensures { λ r.
         ⌜ (r ≡ writeLine side clock (length (now (packet .entry))) (length (now (line .entry))))
         × (now (line .exit) ≡ lineAfterWriting side clock (now (packet .entry)) (now (line .entry)))
@@ -331,6 +331,7 @@ pub fn write_line(side: u8, clock: u64, packet: &[u8], line: &mut [u8]) -> LineW
     if line.len() < whole {
         return LineWrite::NoRoom;
     }
+    let side = side as u8;
     write_fields(side, clock, packet, line);
     LineWrite::Written(whole)
 }

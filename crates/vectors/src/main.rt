@@ -185,7 +185,7 @@ fn show_written(line: &[u8], bytes: &[u8], text: &mut [u8], out: &mut Output, us
     requires { ⌜ used ≤ 65536 ⌝ }
     ensures { λ r. ⌜ r ≤ 65536 ⌝ }
 {
-    let written = trace::write_line(hex_pair(line, 2), hex_number(line, 5), bytes, text);
+    let written = trace::write_line(hex_pair(line, 2) as u32, hex_number(line, 5), bytes, text);
     let answer = written.answer();
     let fields = [answer.length as u64];
     let end = script::put_fields(out, used, answer.number as u64, &fields);

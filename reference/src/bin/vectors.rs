@@ -147,7 +147,7 @@ fn run_read_line(line: &[u8], room: usize) -> String {
 
 fn run_write_line(side: u8, clock: u64, packet: &[u8], room: usize) -> String {
     let mut output = vec![BEFORE; room];
-    let written = trace::write_line(side, clock, packet, &mut output);
+    let written = trace::write_line(side.into(), clock, packet, &mut output);
     let text = String::from_utf8(output).expect("a trace line is ASCII");
     format!("{} {} {}", written.answer, written.length, or_dash(text))
 }

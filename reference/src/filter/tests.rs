@@ -9,7 +9,7 @@ const OPENER_PORT: u16 = 1024;
 const ANSWERER_PORT: u16 = 80;
 
 /// The example's packets, from document 01's trace lines.
-const EXAMPLE: [(u8, u64, &str); 3] = [
+const EXAMPLE: [(u32, u64, &str); 3] = [
     (
         0,
         0,
@@ -100,7 +100,7 @@ fn fresh(places: usize) -> Vec<u8> {
 }
 
 /// The call; a refusal must change no byte.
-fn call(side: u8, clock: u64, table: &mut [u8], packet: &[u8]) -> (u32, u32) {
+fn call(side: u32, clock: u64, table: &mut [u8], packet: &[u8]) -> (u32, u32) {
     let before = table.to_vec();
     let (answer, place) = filter(side, clock, table, packet);
     if answer == 0 {
@@ -243,7 +243,7 @@ fn c12_expires_at_its_millisecond() {
 #[test]
 fn answers_1_to_4_at_their_bounds() {
     let syn = bytes(EXAMPLE[0].2);
-    for (side, expected) in [(0, 0), (1, 11), (2, 1), (255, 1)] {
+    for (side, expected) in [(0, 0), (1, 11), (2, 1), (255, 1), (256, 1), (u32::MAX, 1)] {
         assert_eq!(call(side, 0, &mut fresh(1), &syn).0, expected);
     }
     let limit = 1 << 48;
@@ -491,7 +491,7 @@ fn a_reset_frees_the_entry() {
 
 #[test]
 fn stage_1_lets_three_segments_through() {
-    let answer = |side: u8, packet: Vec<u8>| call(side, 0, &mut held(in_stage(1)), &packet).0;
+    let answer = |side: u32, packet: Vec<u8>| call(side, 0, &mut held(in_stage(1)), &packet).0;
     assert_eq!(answer(0, draft(SYN, 99, 0, 0).opener_packet()), 0);
     assert_eq!(answer(0, draft(SYN, 98, 0, 0).opener_packet()), 13);
     assert_eq!(answer(0, draft(ACK, 100, 0, 0).opener_packet()), 13);

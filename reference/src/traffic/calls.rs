@@ -17,10 +17,13 @@ const CALLS_PER_TABLE: usize = 500;
 /// fresh, and some worlds begin with a filled one.
 const SIZES: [usize; 7] = [1, 2, 3, 8, 64, 511, 512];
 
+/// The lowest 8 or 16 bits of some are those of a legal side.
+const ILLEGAL_SIDES: [u32; 8] = [2, 3, 255, 256, 257, 65_536, 65_537, u32::MAX];
+
 /// What a call is given.
 #[derive(Clone, Debug, PartialEq, Eq)]
 pub struct Call {
-    pub side: u8,
+    pub side: u32,
     pub clock: u64,
     /// The table before the call.
     pub table: Vec<u8>,
@@ -66,7 +69,7 @@ impl Iterator for Calls {
         let table = self.world.table().to_vec();
         let arrival = self.world.next_arrival();
         let mut call = Call {
-            side: arrival.side,
+            side: arrival.side.into(),
             clock: arrival.clock,
             table,
             packet: arrival.packet,
@@ -97,7 +100,7 @@ impl Calls {
     fn change_rest(&mut self, call: &mut Call) {
         let random = &mut self.random;
         match random.below(50) {
-            0 => call.side = random.pick(&[2, 3, 128, 255]),
+            0 => call.side = random.pick(&ILLEGAL_SIDES),
             1 => call.clock = CLOCK_LIMIT + random.pick(&[0, 1, call.clock]),
             2 => call.clock = random.pick(&[u64::MAX, 1 << 63, CLOCK_LIMIT - 1, CLOCK_LIMIT - 1]),
             3 => {

@@ -48,7 +48,12 @@ impl Lines {
     fn legal(&mut self) -> Vec<u8> {
         let arrival = self.world.next_arrival();
         let mut line = vec![0; LONGEST_LINE];
-        let written = write_line(arrival.side, arrival.clock, &arrival.packet, &mut line);
+        let written = write_line(
+            arrival.side.into(),
+            arrival.clock,
+            &arrival.packet,
+            &mut line,
+        );
         assert_eq!(written.answer, 0, "the world keeps to legal lines");
         line.truncate(written.length);
         line

@@ -151,7 +151,7 @@ impl World {
     /// Runs the filter on the kept table.
     fn call(&mut self, arrival: &Arrival) -> (u32, u32) {
         let result = filter(
-            arrival.side,
+            arrival.side.into(),
             arrival.clock,
             &mut self.table,
             &arrival.packet,

@@ -1,4 +1,4 @@
--- Where rows 1 to 4 don't refuse, the table has a header and its places, and the clock used is under 2^48.
+-- Where rows 1 to 4 don't refuse, the side is 0 or 1, the table has a header and its places, and the clock used is under 2^48.
 use Prim.Native.Nat.{_≤_}
 use mathlib.Core.Path.{sym, ap, _∙_}
 use native.Mathlib.Omega.{arith}
@@ -30,6 +30,9 @@ places-for-requires c κs = whole (c .before)
 clock-used-requires : tie.Need-clock-used-requires
 clock-used-requires c κs = whole (c .before .before)
 
+cast-side : tie.Need-cast-side
+cast-side c = omega (arith, fine (c .before .before .before) .side-known)
+
 on-read-requires : tie.Need-on-read-requires
 on-read-requires c κs =
     let s = c .before .before .before in
@@ -52,4 +55,4 @@ returns c =
     ∙ ap decisionOf (sym (past-row-4 (a .version) (a .side) (a .clock) (a .table .now) (s .pre) (a .read)))
 
 pub decide-spec : {M : Type 1} → statement M
-decide-spec = tie.close (tie.spec places-for-requires clock-used-requires on-read-requires returns)
+decide-spec = tie.close (tie.spec places-for-requires clock-used-requires cast-side on-read-requires returns)

@@ -44,6 +44,9 @@ enum-told-2 c = search needs
 enum-known-read-2 : tie.Need-enum-known-read-2
 enum-known-read-2 c = search needs
 
+cast-filter-ipv4 : tie.Need-cast-filter-ipv4
+cast-filter-ipv4 c = search needs
+
 sub-filter-ipv4 : tie.Need-sub-filter-ipv4
 sub-filter-ipv4 c = search needs
 
@@ -90,6 +93,7 @@ answer-line-spec =
     enum-known-read
     enum-told-2
     enum-known-read-2
+    cast-filter-ipv4
     sub-filter-ipv4
     part-filter-ipv4-start
     part-filter-ipv4-end

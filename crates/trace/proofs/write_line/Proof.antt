@@ -77,6 +77,9 @@ returns-5 c =
       refl,
     )
 
+cast-side : tie.Need-cast-side
+cast-side c = search needs
+
 write-fields-requires : tie.Need-write-fields-requires
 write-fields-requires c κs = search needs
 
@@ -102,6 +105,7 @@ write-line-spec =
     mul-whole
     add-whole
     returns-5
+    cast-side
     write-fields-requires
     same-length
     returns-6)
