@@ -178,26 +178,26 @@ fn ack_met(to: End, segment: Segment) -> bool
 fn with_fin(fins: u8, sender: usize) -> u8
     ensures { λ r. ⌜ r ≡ withFin fins sender ⌝ }
 {
-    if sender == 0 {
-        if fins % 2 == 1 {
-            return fins;
-        }
-        return fins + 1;
+    match sender {
+        0 => match fins % 2 {
+            1 => fins,
+            _ => fins + 1,
+        },
+        _ => match fins / 2 % 2 {
+            1 => fins,
+            _ => fins + 2,
+        },
     }
-    if fins / 2 % 2 == 1 {
-        return fins;
-    }
-    fins + 2
 }
 
 // The FIN bits after a segment.
 fn fins_after(fins: u8, sender: usize, segment: Segment) -> u8
     ensures { λ r. ⌜ r ≡ finsAfter fins sender (segment .flags) ⌝ }
 {
-    if segment.has_fin() {
-        return with_fin(fins, sender);
+    match segment.has_fin() {
+        true => with_fin(fins, sender),
+        false => fins,
     }
-    fins
 }
 
 // The stage after a segment where no FIN bit is set.

@@ -116,12 +116,13 @@ fn entry_after(entry: Entry, after: Connection) -> Entry
     ensures { λ r. ⌜ r ≡ stored (entryWith connections (viewed entry) after) ⌝ }
 {
     let key = entry.key;
-    if after.stage == 0 {
-        return free_entry();
-    }
-    Entry {
-        key: key,
-        connection: after,
+    let stage = after.stage;
+    match stage {
+        0 => free_entry(),
+        _ => Entry {
+            key: key,
+            connection: after,
+        },
     }
 }
 

@@ -122,12 +122,10 @@ fn check_flags(flags: u8, n: usize) -> FlagCheck
     // RST, SYN and FIN, from the highest bit down.
     let low = flags % 8;
     match low {
-        0..=1 => {
-            if flags / 16 % 2 == 0 {
-                return FlagCheck::BadFlags(Cause::NoSynAckRst);
-            }
-            FlagCheck::Fine
-        }
+        0..=1 => match flags / 16 % 2 {
+            0 => FlagCheck::BadFlags(Cause::NoSynAckRst),
+            _ => FlagCheck::Fine,
+        },
         2 => {
             if n == 0 {
                 return FlagCheck::Fine;

@@ -355,10 +355,10 @@ fn sound_entry(version: Version, table: &[u8], clock: u64, at: usize) -> bool
     if !sound_numbers(version, table, clock, at, opener, answerer) {
         return false;
     }
-    if word % 256 == 1 {
-        return sound_unanswered(opener, answerer);
+    match word % 256 {
+        1 => sound_unanswered(opener, answerer),
+        _ => true,
     }
-    true
 }
 
 // The header's last four octets as one word, lowest first: two of its zeros, the IP version's byte, a zero.
