@@ -31,7 +31,7 @@ module _ (v : Version) where
       record {
         passed-place = λ _. inside;
         passed-length = λ _. length-after v t p now (stored e) inside;
-        passed-elsewhere = λ _ i off. byte-elsewhere v t p now (stored e) inside i (off .0) (off .1);
+        passed-elsewhere = λ _ i off. byte-elsewhere v t p now (stored e) inside i (omega (arith, off .0)) (off .1);
         blocked-answer = λ not-0. absurd (not-0 refl);
         blocked-place = λ not-0. absurd (not-0 refl);
         blocked-keeps = λ not-0. absurd (not-0 refl);

@@ -27,7 +27,7 @@ unfolding legalLength
 legal-length-bounds v n e = between-true (placeAt v 1) (placeAt v 512) n (&&-true ((n - headerSize) % entrySize v =ᵇ 0) _ e .1)
 
 -- a table's places are numbers of the machine
-pub place-small : (v : Version) (p : ℕ) → p ≤ 512 → placeAt v p < 2 ^ 64
+pub place-small : (v : Version) (p : ℕ) → p < 2 ^ 32 → placeAt v p < 2 ^ 64
 unfolding placeAt
 place-small V4 p h = omega arith
 place-small V6 p h = omega arith

@@ -35,47 +35,54 @@ module _ (h : List LineSegment) (p : LineSegment) (no-reset : rst (p .flags) ≡
   uncounted : (i : ℕ) → (p .from ≡ i → ⊥) → ((p .from =ᵇ i) && (rst (p .flags) ≠ᵇ 1)) ≡ false
   uncounted i e = rw (ne-eqb (p .from) i e)
 
+  -- each is the larger of what it was and the segment's
+  one-more :
+      (i : ℕ) →
+      numbersOf i (p ∷ h) ≡ record { end = max (numbersOf i h .end) (endBy i p); edge = max (numbersOf i h .edge) (edgeBy i p); win = max (numbersOf i h .win) (windowBy i p) }
+  unfolding numbersOf
+  one-more i =
+      let end : numbersOf i (p ∷ h) .end ≡ max (numbersOf i h .end) (endBy i p) = omega arith in
+      let edge : numbersOf i (p ∷ h) .edge ≡ max (numbersOf i h .edge) (edgeBy i p) = omega arith in
+      let win : numbersOf i (p ∷ h) .win ≡ max (numbersOf i h .win) (windowBy i p) = omega arith in
+      λ k. record { end = end k; edge = edge k; win = win k }
+
   -- its sender's: a SYN's end is no further than the edge
   pub numbers-sender :
       (i : ℕ) → p .from ≡ i → p .start + p .length ≤ numbersOf i h .edge →
       numbersOf i (p ∷ h) ≡ sentTo (numbersOf i h) (p .start + p .length) (p .window)
-  unfolding numbersOf
   numbers-sender i mine inside =
       let end : endBy i p ≡ p .start + p .length = if-true _ _ _ (counted i mine) in
       let win : windowBy i p ≡ p .window = if-true _ _ _ (counted i mine) in
       let own : edgeBy i p ≡ (if syn (p .flags) =ᵇ 1 then p .start + p .length else 0) = if-=-not _ _ no-reset ∙ if-= _ _ mine in
       let edge : max (numbersOf i h .edge) (edgeBy i p) ≡ numbersOf i h .edge = rw own (omega (arith, if-either (λ n. n ≤ numbersOf i h .edge) (syn (p .flags) =ᵇ 1) (p .start + p .length) 0 inside (omega arith))) in
-      λ k. record { end = ap (max (numbersOf i h .end)) end k; edge = edge k; win = ap (max (numbersOf i h .win)) win k }
+      one-more i ∙ λ k. record { end = ap (max (numbersOf i h .end)) end k; edge = edge k; win = ap (max (numbersOf i h .win)) win k }
 
   -- a SYN's sender's, whatever its edge was
   pub numbers-syn :
       (i : ℕ) → p .from ≡ i → syn (p .flags) ≡ 1 →
       numbersOf i (p ∷ h) ≡ record { end = max (numbersOf i h .end) (p .start + p .length); edge = max (numbersOf i h .edge) (p .start + p .length); win = max (numbersOf i h .win) (p .window) }
-  unfolding numbersOf
   numbers-syn i mine a-syn =
       let end : endBy i p ≡ p .start + p .length = if-true _ _ _ (counted i mine) in
       let win : windowBy i p ≡ p .window = if-true _ _ _ (counted i mine) in
       let edge : edgeBy i p ≡ p .start + p .length = if-=-not _ _ no-reset ∙ if-= _ _ mine ∙ if-= _ _ a-syn in
-      λ k. record { end = ap (max (numbersOf i h .end)) end k; edge = ap (max (numbersOf i h .edge)) edge k; win = ap (max (numbersOf i h .win)) win k }
+      one-more i ∙ λ k. record { end = ap (max (numbersOf i h .end)) end k; edge = ap (max (numbersOf i h .edge)) edge k; win = ap (max (numbersOf i h .win)) win k }
 
   -- the other end's, by an acknowledgement and without one
   pub numbers-acked :
       (i : ℕ) → (p .from ≡ i → ⊥) → ack (p .flags) ≡ 1 →
       numbersOf i (p ∷ h) ≡ grantedTo (numbersOf i h) (p .acked + max (p .window) 1)
-  unfolding numbersOf
   numbers-acked i theirs acks =
       let end : max (numbersOf i h .end) (endBy i p) ≡ numbersOf i h .end = ap (max (numbersOf i h .end)) (if-false _ _ _ (uncounted i theirs)) ∙ omega arith in
       let win : max (numbersOf i h .win) (windowBy i p) ≡ numbersOf i h .win = ap (max (numbersOf i h .win)) (if-false _ _ _ (uncounted i theirs)) ∙ omega arith in
       let edge : edgeBy i p ≡ p .acked + max (p .window) 1 = if-=-not _ _ no-reset ∙ if-=-not _ _ theirs ∙ if-= _ _ acks in
-      λ k. record { end = end k; edge = ap (max (numbersOf i h .edge)) edge k; win = win k }
+      one-more i ∙ λ k. record { end = end k; edge = ap (max (numbersOf i h .edge)) edge k; win = win k }
 
   pub numbers-unacked : (i : ℕ) → (p .from ≡ i → ⊥) → (ack (p .flags) ≡ 1 → ⊥) → numbersOf i (p ∷ h) ≡ numbersOf i h
-  unfolding numbersOf
   numbers-unacked i theirs silent =
       let end : max (numbersOf i h .end) (endBy i p) ≡ numbersOf i h .end = ap (max (numbersOf i h .end)) (if-false _ _ _ (uncounted i theirs)) ∙ omega arith in
       let win : max (numbersOf i h .win) (windowBy i p) ≡ numbersOf i h .win = ap (max (numbersOf i h .win)) (if-false _ _ _ (uncounted i theirs)) ∙ omega arith in
       let edge : max (numbersOf i h .edge) (edgeBy i p) ≡ numbersOf i h .edge = ap (max (numbersOf i h .edge)) (if-=-not _ _ no-reset ∙ if-=-not _ _ theirs ∙ if-=-not _ _ silent) ∙ omega arith in
-      λ k. record { end = end k; edge = edge k; win = win k }
+      one-more i ∙ λ k. record { end = end k; edge = edge k; win = win k }
 
 -- What is written, from what becomes of F and of T
 

@@ -1,5 +1,5 @@
 -- Rows 1 to 4, each by the tests before it.
-use Prim.Native.Nat.{_≤_}
+use Prim.Native.Nat.{_^_, _≤_}
 use mathlib.Core.Path.{_≡_, refl, sym, ap, _∙_}
 use mathlib.Core.Bool.{Bool, false, not}
 use native.Mathlib.Omega.{arith}
@@ -27,7 +27,10 @@ past-row-2 :
     else if not (soundTable (a .version) (a .table .now) (placesIn (a .version) (a .table .now))) then 4
     else 0)
 unfolding tableRefusal
-past-row-2 k = if-false _ _ _ (ap not (le-leb _ 1 (k .before .if1 .left))) ∙ if-≤-not _ _ (k .if2 .left)
+past-row-2 k =
+    let a = k .before .before .before .args in
+    if-false _ _ _ (ap not (le-leb (a .side) 1 (omega (arith, k .before .if1 .left))))
+    ∙ if-≤-not {a = 2 ^ 48} {b = a .clock} _ _ (omega (arith, k .if2 .left))
 
 -- Past row 3 the table has a header and a place
 
@@ -63,11 +66,14 @@ row-4 k test =
 
 returns : tie.Need-returns
 unfolding tableRefusal
-returns c = sym (if-true _ _ _ (ap not (lt-leb _ 1 (c .if1 .taken))))
+returns c = sym (if-true _ _ _ (ap not (lt-leb (c .before .before .args .side) 1 (omega (arith, c .if1 .taken)))))
 
 returns-2 : tie.Need-returns-2
 unfolding tableRefusal
-returns-2 c = sym (if-false _ _ _ (ap not (le-leb _ 1 (c .before .if1 .left))) ∙ if-≤ _ _ (c .if2 .taken))
+returns-2 c =
+    let a = c .before .before .before .args in
+    sym (if-false _ _ _ (ap not (le-leb (a .side) 1 (omega (arith, c .before .if1 .left))))
+    ∙ if-≤ {a = 2 ^ 48} {b = a .clock} _ _ (omega (arith, c .if2 .taken)))
 
 legal-length-requires : tie.Need-legal-length-requires
 legal-length-requires c κs = search needs

@@ -68,7 +68,7 @@ returns-5 : tie.Need-returns-5
 unfolding writeLine lineAfter
 returns-5 c =
     let a = c .before .before .before .before .before .before .before .args in
-    let n = length (a .packet .now) in told (a .side) (a .clock) (a .packet .now) (a .line .now) (
+    let n = length (a .packet .now) in told (a .side) (a .clock) (a .packet .now) (a .line .now) {after = a .line .now} (
       sym (if-false _ _ _ (le-ltb 1 (a .side) (omega arith))
           ∙ if-false _ _ _ (lt-leb (2 ^ 48) (a .clock) (omega arith))
           ∙ if-false _ _ _ (ne-eqb n 0 (λ e. omega arith))
