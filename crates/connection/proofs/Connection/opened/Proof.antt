@@ -23,7 +23,7 @@ returns c =
       side = a .side;
       fins = 0;
       deadline = a .clock + c .life .ensures .0 i;
-      ends = c .before .opening .ensures i ∷ unheard ∷ [];
+      ends = c .before .begun .ensures i ∷ unheard ∷ [];
     }
 
 pub opened-spec : {M : Type 1} → statement M
