@@ -1,4 +1,4 @@
-/* Runs document 01's example through the library: each line is read, the filter asked about its packet, and the packet written back as a line. */
+/* Runs the example of docs/RULES.md through the library: each line is read, the filter asked about its packet, and the packet written back as a line. */
 #include <stdio.h>
 #include <string.h>
 

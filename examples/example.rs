@@ -1,4 +1,4 @@
-//! Runs document 01's example through the library: each line is read, the filter asked about its packet,
+//! Runs the example of docs/RULES.md through the library: each line is read, the filter asked about its packet,
 //! and the packet written back as a line.
 
 /// The library's functions. They are safe to call on references, which are never null, point to as

@@ -1,5 +1,5 @@
 /*
- * Quaybonnet, a TCP packet filter.
+ * Quaybonnet, a TCP packet filter. docs/RULES.md has every rule, with the table's layout and each answer's exact causes.
  *
  * Of every call: pointers must be valid for as many bytes as the lengths say and must not overlap, and none may be NULL, not even with
  * length 0. Bytes need no alignment; the numbers that clock, length and offset point to are aligned as C has them. While a call runs,
@@ -32,11 +32,11 @@ extern "C" {
  *    2  clock is 2^48 ms or more
  *    3  table_len is not QB_TABLE_LENGTH(n) with n from 1 to 512
  *    4  the table is unsound: its clock, an entry or a byte that has to be zero is not as docs/RULES.md, "The table", has it (no call makes it so)
- *    5  it is not IPv4, its header is not whole, or its lengths do not fit the bytes given
+ *    5  it is not IPv4, or its header's length or its total length is too small, or more than the bytes given
  *    6  the IPv4 header's checksum is wrong
  *    7  it is a fragment
  *    8  it is not TCP
- *    9  there is no whole TCP header within the packet
+ *    9  there is no whole TCP header within the packet, or its data offset is too small or past the packet's end
  *   10  SYN with FIN or RST; none of SYN, ACK and RST; or SYN with payload
  *   11  no live connection matches, and it is not a SYN without ACK from side 0
  *   12  it would open a connection, and no place is free or expired
@@ -58,7 +58,8 @@ static inline uint32_t qb_place(uint32_t result) { return result % 65536; }
 /*
  * Reads one trace line, given without its newline. Returns the first of these that applies:
  *   21  the line is over 4,111 characters
- *   22  it is malformed: *offset is where the first byte stands that no legal line has there, or line_len if the line stops early
+ *   22  it is malformed: *offset is where the first byte stands that no legal line has there after the bytes before it, or line_len if
+ *       the line stops early
  *   23  the packet has more than room bytes
  *    0  otherwise: *side, *clock and *length are the line's, the packet is the first *length bytes of packet, and *offset is 0
  * A refusal (21, 22, 23) writes no byte of packet and stores side, clock and length 0, and offset 0 but for 22. Bytes of packet past the
