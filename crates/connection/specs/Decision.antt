@@ -7,7 +7,7 @@ use Rattle.choice.specs.Choice.{if_then_else_, _=ᵇ_, _≠ᵇ_}
 use Rattle.serial.specs.Serial.{sameSeq, seqBack}
 use Rattle.segment.specs.Flags.{isReset, ack, SYN, SYN+ACK, ACK+RST}
 use Rattle.segment.specs.declared.Segment.{Segment}
-use Rattle.connection.specs.Ends.{count, opener, answerer, zeros, unheard, sender, receiver, granted, begun, widened, endsAfter}
+use Rattle.connection.specs.Ends.{count, opener, answerer, zeros, unheard, recordOf, sender, receiver, granted, begun, widened, endsAfter}
 use Rattle.connection.specs.Ranges.{sequenceMet, ackRange, ackMet}
 use Rattle.connection.specs.Stages.{lifeOf, finsAfter, stageAfter}
 use Rattle.connection.specs.declared.Connection.{Connection}
@@ -17,7 +17,7 @@ use Rattle.connection.specs.declared.Verdict.{Verdict}
 use Rattle.connection.specs.declared.Verdict.the-variants.{Pass, NotAllowed, SequenceMissed, AckMissed}
 
 abbrev pub openerOf : Connection → End
-openerOf c = sender (c .ends) opener
+openerOf c = recordOf (c .ends) opener
 
 -- the same SYN again: the opener's, no ACK, s = opener end − 1
 unfoldable pub sameSyn : Connection → ℕ → Segment → Bool

@@ -37,13 +37,17 @@ unheard = record { end = seqNum 0; edge = seqNum 0; win = count 1 }
 abbrev pub zeros : End
 zeros = record { end = seqNum 0; edge = seqNum 0; win = count 0 }
 
+-- an end's record
+abbrev pub recordOf : List End → ℕ → End
+recordOf ends i = getD ends i zeros
+
 -- F, the record of the end that sends
 abbrev pub sender : List End → ℕ → End
-sender ends i = getD ends i zeros
+sender ends i = recordOf ends i
 
 -- T, the other end's, to which it sends
 abbrev pub receiver : List End → ℕ → End
-receiver ends i = getD ends (otherEnd i) zeros
+receiver ends i = recordOf ends (otherEnd i)
 
 -- w, as it counts: unscaled today
 abbrev pub effectiveWindow : Segment → OctetCount

@@ -3,7 +3,7 @@ use Prim.Native.Nat.{ℕ, _+_}
 use mathlib.Core.Bool.{Bool, true, _&&_}
 use Rattle.choice.specs.Choice.{if_then_else_, _≤ᵇ_, _=ᵇ_}
 use Rattle.serial.specs.Serial.{seqMinus}
-use Rattle.connection.specs.Ends.{opener, answerer, sender}
+use Rattle.connection.specs.Ends.{opener, answerer, recordOf}
 use Rattle.connection.specs.Ranges.{widest}
 use Rattle.connection.specs.Stages.{longestLife}
 use Rattle.connection.specs.declared.Connection.{Connection}
@@ -34,6 +34,6 @@ soundConnection clock c =
     && ((c .side ≤ᵇ 1)
     && (soundFins (c .stage) (c .fins)
     && ((c .deadline ≤ᵇ clock + longestLife)
-    && (soundEnd (sender (c .ends) opener)
-    && (soundEnd (sender (c .ends) answerer)
-    && soundUnanswered (c .stage) (sender (c .ends) opener) (sender (c .ends) answerer)))))))
+    && (soundEnd (recordOf (c .ends) opener)
+    && (soundEnd (recordOf (c .ends) answerer)
+    && soundUnanswered (c .stage) (recordOf (c .ends) opener) (recordOf (c .ends) answerer)))))))

@@ -7,7 +7,7 @@ use Rattle.address.specs.Address.{addressSize, addressOctets, flowAt}
 use Rattle.address.specs.declared.Version.{Version}
 use Rattle.address.specs.declared.Version.the-variants.{V4, V6}
 use Rattle.address.specs.declared.Flow.{Flow}
-use Rattle.connection.specs.Ends.{count, seqNum, opener, answerer, sender}
+use Rattle.connection.specs.Ends.{count, seqNum, opener, answerer, recordOf}
 use Rattle.connection.specs.declared.Connection.{Connection}
 use Rattle.connection.specs.declared.End.{End}
 use Rattle.entry.specs.declared.Entry.{Entry}
@@ -62,7 +62,7 @@ endBytes e = octetsOf 4 (e .end .0) ++ (octetsOf 4 (e .edge .0) ++ octetsOf 4 (e
 
 -- deadline (8), then for opener and then answerer: end, edge, win
 unfoldable pub numbersBytes : Connection → List ℕ
-numbersBytes c = octetsOf 8 (c .deadline) ++ (endBytes (sender (c .ends) opener) ++ endBytes (sender (c .ends) answerer))
+numbersBytes c = octetsOf 8 (c .deadline) ++ (endBytes (recordOf (c .ends) opener) ++ endBytes (recordOf (c .ends) answerer))
 
 -- marks, addresses and ports, numbers, then 16 or 24 zeros
 unfoldable pub entryBytes : Version → Entry → List ℕ

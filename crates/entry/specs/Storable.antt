@@ -4,7 +4,7 @@ use mathlib.Core.Path.{_≡_}
 use lib.ListN.{length}
 use Rattle.address.specs.Address.{IsFlow}
 use Rattle.address.specs.declared.Version.{Version}
-use Rattle.connection.specs.Ends.{opener, answerer, sender}
+use Rattle.connection.specs.Ends.{opener, answerer, recordOf}
 use Rattle.connection.specs.declared.End.{End}
 use Rattle.entry.specs.declared.Entry.{Entry}
 
@@ -20,5 +20,5 @@ pub record Storable (v : Version) (e : Entry) : Type 0 where
   pub key : IsFlow v (e .key)
   pub deadline : e .connection .deadline < 2 ^ 64
   pub two-ends : length (e .connection .ends) ≡ 2
-  pub opener-fits : StorableEnd (sender (e .connection .ends) opener)
-  pub answerer-fits : StorableEnd (sender (e .connection .ends) answerer)
+  pub opener-fits : StorableEnd (recordOf (e .connection .ends) opener)
+  pub answerer-fits : StorableEnd (recordOf (e .connection .ends) answerer)

@@ -2,12 +2,12 @@
 use Prim.Native.Nat.{ℕ, _+_, _-_, _^_, _<_, _≤_}
 use mathlib.Core.Path.{_≡_, refl, sym, ap, _∙_}
 use mathlib.Core.Bool.{Bool, true, false, _&&_, not}
-use mathlib.Core.Logic.{_↔_, inr}
+use mathlib.Core.Logic.{_⊎_, _↔_, inr, ⊎-elim}
 use mathlib.Core.List.{List}
 use native.Mathlib.Omega.{arith}
 use borrow.Author.Tests.{leb-true, eq-eqb, eqb-true}
 use Rattle.choice.specs.Choice.{if_then_else_, _≤ᵇ_, _=ᵇ_}
-use Rattle.choice.proofs.Choice.{if-=-not}
+use Rattle.choice.proofs.Choice.{if-either, if-=, if-=-not}
 use Rattle.choice.proofs.Tests.{not-true-false, false-true, &&-true}
 use Rattle.serial.specs.Ring.{wrap, largestRange}
 use Rattle.serial.proofs.Ring.{nearest-wrap}
@@ -19,7 +19,7 @@ use Rattle.connection.specs.Decision.{verdictNumber, opened}
 use Rattle.connection.specs.declared.Verdict.{Verdict}
 use Rattle.connection.specs.declared.Verdict.the-variants.{Pass, SequenceMissed, AckMissed}
 use Rattle.history.specs.Numbers.{Numbers, boundsI-II, boundsIII-IV}
-use Rattle.history.specs.History.{LineSegment, numbersOf, stageOf, standsBy, placed, judge, Placeable}
+use Rattle.history.specs.History.{LineSegment, numbersOf, stageOf, standsBy, placed, judgeUnanswered, judge, Placeable}
 use Rattle.history.specs.Places.{MetFrom, AcksAt, ByAllPlaces}
 use Rattle.history.specs.Demand2.{connectionAfter, historyAfter, openingHistory, Uniqueness}
 use Rattle.history.proofs.Step.{Near, start-near, ack-near, ackRange-small}
@@ -152,6 +152,17 @@ module _
               e ∙ n .is-0 .1 (met (somewhere .0) (somewhere .1), λ has-ack. let A = acking (eqb-true (ack (g .flags)) 1 has-ack) in acks (A .0) (A .1))),
         );
       }
+
+-- 14 and 15 are given from stage 2 on
+pub from-stage-2 :
+    (h : List LineSegment) → Reached h → (p : LineSegment) →
+    (verdictNumber (judge h p) ≡ 14) ⊎ (verdictNumber (judge h p) ≡ 15) → 2 ≤ stageOf h
+unfolding judge judgeUnanswered
+from-stage-2 h (answered a turned) p is = a .stage
+from-stage-2 h (unanswered u turned) p is =
+    let three : verdictNumber (judge h p) ≤ 13 =
+    rw (if-= {a = stageOf h} {b = 1} (judgeUnanswered h p) _ (u .stage)) (if-either (λ (v : Verdict). verdictNumber v ≤ 13) _ _ _ (omega arith) (omega arith)) in
+    ⊎-elim (λ e. absurd (omega (arith, three, e))) (λ e. absurd (omega (arith, three, e))) is
 
 -- after any history that a connection has come to
 pub by-all-places :

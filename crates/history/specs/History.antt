@@ -1,7 +1,8 @@
 -- A history: the segments that passed on one connection, on the unwrapped line, newest first. The last is the opening SYN.
--- Its numbers, its window, bounds I to IV and the order of 13, 14 and 15 are its own. Shared with `connection` by definition are the tests of
--- flags, the nearest place on the line (`nearest`, on which `further` rests), bound IV's 66,000, the FIN bits and the stage after a segment from
--- stage 2 on (`finsAfter`, `stageAfter`), and a stage's life (`lifeOf`, in `honest`); over tables, all of `rows` but the verdict and what a pass leaves.
+-- Its numbers, its window, bounds I to IV and the order of 13, 14 and 15 are its own. Shared with `connection` by definition are segments and
+-- their flags, the two ends, the verdicts with their numbers, the ring of 2^32 with the nearest place on the line (on which `further` rests), the
+-- constants 66,000 and 65,535, and, as the bounds say nothing of them, the FIN bits and the stage after a segment from stage 2 on (`finsAfter`,
+-- `stageAfter`), a stage's life (`lifeOf`) and a freed record (`zeros`); over tables, all of `rows` but the verdict and what a pass leaves.
 use Prim.Native.Nat.{ℕ, _+_, _^_, _<_, _≤_, max}
 use mathlib.Core.Path.{_≡_}
 use mathlib.Core.Bool.{Bool, _&&_, _||_, not}

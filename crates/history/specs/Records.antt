@@ -1,4 +1,4 @@
--- A connection's records as their types have them.
+-- A connection's records: two, with sequence numbers as their types have them.
 use Prim.Native.Nat.{ℕ, _^_, _<_}
 use mathlib.Core.Path.{_≡_}
 use mathlib.Core.List.{[], _∷_}

@@ -1,7 +1,7 @@
 -- Demand 2 over lists of calls: the table's answers, places and entries are those of the histories.
-use Prim.Native.Nat.{ℕ, _+_, _<_}
+use Prim.Native.Nat.{ℕ, _+_, _<_, _≤_}
 use mathlib.Core.Path.{_≡_, refl, sym, ap, subst, _∙_}
-use mathlib.Core.Logic.{_⊎_, inl, inr}
+use mathlib.Core.Logic.{_⊎_, inl, inr, ⊎-elim}
 use mathlib.Core.Bool.{true, false}
 use mathlib.Core.List.{List, [], _∷_}
 use native.Mathlib.Omega.{arith}
@@ -13,19 +13,21 @@ use Rattle.address.specs.declared.Flow.{Flow}
 use Rattle.segment.specs.Flags.{rst, SYN}
 use Rattle.segment.specs.declared.Segment.{Segment}
 use Rattle.connection.specs.Stages.{lifeOf}
-use Rattle.connection.specs.Decision.{verdictOn, passed, opened}
+use Rattle.connection.specs.Decision.{verdictOn, verdictNumber, passed, opened}
 use Rattle.connection.specs.declared.Connection.{Connection}
 use Rattle.connection.specs.declared.Verdict.the-variants.{Pass}
+use Rattle.rows.specs.Rows as rows
 use Rattle.rows.specs.Rows.{Ask, isOpening, Entry, View, freeEntry, clockUsed, senderOf, entryWith, entryAfter, openingEntry, filter, answerOf}
 use Rattle.rows.specs.Connections.{connections}
-use Rattle.rows.specs.declared.Found.the-variants.{At}
-use Rattle.rows.proofs.Rows.{sender-known, onSegment-by-search, onEntry-by-verdict, answer-by-verdict, found-live}
+use Rattle.rows.specs.declared.Found.{Found}
+use Rattle.rows.specs.declared.Found.the-variants.{At, Nothing}
+use Rattle.rows.proofs.Rows.{sender-known, onSegment-by-search, onEntry-by-verdict, unmatched-answer, answer-by-verdict, found-live}
 use Rattle.history.specs.Numbers.{onRing}
 use Rattle.history.specs.History.{LineSegment, numbersOf, finsOf, stageOf, placed, judge, Holds, Placeable}
 use Rattle.history.proofs.Demand2.{Reached, unanswered, answered, judged, pass-holds, holds-first, reached-first}
-use Rattle.history.proofs.Places.{by-all-places}
+use Rattle.history.proofs.Places.{from-stage-2, by-all-places}
 use Rattle.honest.specs.Histories.{History, grown, histories, recordsOf, connectionOf}
-use Rattle.honest.specs.Demand2.{fresh, viewAfter, AllPlaceable, AnswersByAllPlaces, Demand2}
+use Rattle.honest.specs.Demand2.{fresh, viewAfter, AllPlaceable, FoundFromStage2, AnswersByAllPlaces, Demand2}
 use Rattle.honest.proofs.Arrival.{passed-renewed}
 use Rattle.honest.proofs.Simulation.{Agreeing, Related, Alike, answer-alike, place-alike, after-alike, filter-same}
 use Rattle.honest.proofs.SoundKept.{reset-frees}
@@ -169,24 +171,60 @@ tables-related n (a ∷ l) placeable =
     let u = viewAfter histories n l in
     after-alike Stands t u before (filter connections t a) (filter histories u a) (same-outcome t u before a (placeable .0))
 
--- on an entry that was found, from stage 2 on, the answer speaks of all places
-places-related :
-    (t : View connections) (u : View histories) → Related Stands t u → (a : Ask) → Placeable (a .segment) →
-    AnswersByAllPlaces u a (answerOf connections (filter connections t a))
-places-related t u related a placeable p m =
-    let now = clockUsed histories u a in
-    let f = u .entry p in
-    let h = f .connection .segments in
-    let i = senderOf histories f (a .side) in
-    let g = a .segment in
-    let live = found-live histories u now (a .side) (a .key) g p (m .match) .1 in
-    let by-match = onSegment-by-search histories u now (a .side) (a .key) g (At p) (m .match) in
-    let by-entry = onEntry-by-verdict histories f p now (a .side) g (judge h (placed h i g)) refl in
-    let answer =
-    answer-alike Stands (filter connections t a) (filter histories u a) (same-outcome t u related a placeable)
-    ∙ ap (answerOf histories) (by-match ∙ by-entry)
-    ∙ answer-by-verdict histories (judge h (placed h i g)) p now _ in
-    rw answer (by-all-places h (related .entries p .reached (omega (arith, live))) (m .stage) i (sender-known histories f (a .side)) g placeable)
+-- the answer speaks of all places
+module _
+    (t : View connections) (u : View histories) (related : Related Stands t u) (a : Ask) (placeable : Placeable (a .segment)) where
+  abbrev now : ℕ
+  now = clockUsed histories u a
+
+  abbrev g : Segment
+  g = a .segment
+
+  abbrev segments : ℕ → List LineSegment
+  segments p = u .entry p .connection .segments
+
+  abbrev i : ℕ → ℕ
+  i p = senderOf histories (u .entry p) (a .side)
+
+  same-answer : answerOf connections (filter connections t a) ≡ answerOf histories (filter histories u a)
+  same-answer = answer-alike Stands (filter connections t a) (filter histories u a) (same-outcome t u related a placeable)
+
+  module _ (p : ℕ) (match : rows.search histories u now (a .side) (a .key) ≡ At p) where
+    answer-judged : answerOf connections (filter connections t a) ≡ verdictNumber (judge (segments p) (placed (segments p) (i p) g))
+    answer-judged =
+        same-answer
+        ∙ ap (answerOf histories) (onSegment-by-search histories u now (a .side) (a .key) g (At p) match)
+        ∙ ap (answerOf histories) (onEntry-by-verdict histories (u .entry p) p now (a .side) g (judge (segments p) (placed (segments p) (i p) g)) refl)
+        ∙ answer-by-verdict histories (judge (segments p) (placed (segments p) (i p) g)) p now _
+
+    match-reached : Reached (segments p)
+    match-reached = related .entries p .reached (omega (arith, found-live histories u now (a .side) (a .key) g p match .1))
+
+  answer-found :
+      (r : Found) → rows.search histories u now (a .side) (a .key) ≡ r → (n : ℕ) → answerOf connections (filter connections t a) ≡ n →
+      (n ≡ 14) ⊎ (n ≡ 15) → (p : ℕ) × FoundFromStage2 u a p
+  answer-found Nothing none n is ranged =
+      let least : answerOf connections (filter connections t a) ≤ 12 =
+      rw (same-answer ∙ ap (answerOf histories) (onSegment-by-search histories u now (a .side) (a .key) g Nothing none))
+      (unmatched-answer histories u now (a .side) (a .key) g) in
+      absurd (⊎-elim (λ (e : n ≡ 14). omega (arith, least, is, e)) (λ (e : n ≡ 15). omega (arith, least, is, e)) ranged)
+  answer-found (At p) match n is ranged =
+      let number = sym (answer-judged p match) ∙ is in (
+        p,
+        record {
+          match = match;
+          stage = from-stage-2 (segments p) (match-reached p match) (placed (segments p) (i p) g)
+              (⊎-elim (λ (e : n ≡ 14). inl (number ∙ e)) (λ (e : n ≡ 15). inr (number ∙ e)) ranged);
+        },
+      )
+
+  places-related : AnswersByAllPlaces u a (answerOf connections (filter connections t a))
+  places-related = record {
+    found = answer-found (rows.search histories u now (a .side) (a .key)) refl (answerOf connections (filter connections t a)) refl;
+    places = λ p m.
+        rw (answer-judged p (m .match))
+        (by-all-places (segments p) (match-reached p (m .match)) (m .stage) (i p) (sender-known histories (u .entry p) (a .side)) g placeable);
+  }
 
 pub demand2 : Demand2
 demand2 n l placeable =
@@ -198,5 +236,5 @@ demand2 n l placeable =
       answer = λ a placeable. answer-alike Stands (filter connections t a) (filter histories u a) (same-outcome t u related a placeable);
       place = λ number a placeable.
           place-alike Stands number (filter connections t a) (filter histories u a) (same-outcome t u related a placeable);
-      all-places = places-related t u related;
+      all-places = λ a placeable. places-related t u related a placeable;
     }

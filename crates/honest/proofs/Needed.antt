@@ -23,7 +23,7 @@ use Rattle.honest.specs.Honest.{passes, afterCall, told, said, Fair, Leg
 use Rattle.honest.specs.Instance.{viewMachine}
 use Rattle.honest.specs.Demand2.{fresh}
 use Rattle.honest.specs.Witness.{Seen}
-use Rattle.honest.specs.Needed.{Need, FairAfter, Blocked, Shown, AllShown, ofSendings, ofCalls, EachNeeded}
+use Rattle.honest.specs.Needed.{Need, FairAfter, BlockedArrival, Shown, AllShown, ofSendings, ofCalls, EachNeeded}
 use Rattle.honest.proofs.Check.{Test, both, yes, no, so, equal, atMost, fair, checked}
 use Rattle.honest.proofs.Instance.{demand3-view, fresh-sound}
 
@@ -42,7 +42,7 @@ fairAfter P (x ∷ N) L = both (fair one P x (N ++ L)) (fairAfter P N L)
 abbrev notZero : (n : ℕ) → Test (n ≡ 0 → ⊥)
 notZero n = record { holds = not (n =ᵇ 0); shows = λ e. eqb-false n 0 (not-true (n =ᵇ 0) e) }
 
-abbrev blocked : (L : List Seen) (n : ℕ) → Test (Blocked L n)
+abbrev blocked : (L : List Seen) (n : ℕ) → Test (BlockedArrival L n)
 blocked [] n = no
 blocked (send p ∷ L) n = no
 blocked (call q (opening k p) ∷ L) n = no
@@ -56,7 +56,7 @@ pub record Computed (n : Need) : Type 0 where
   pub legal-before : Legal M one (n .pair) (reverse (n .before))
   pub fair-instead : Fair M one (n .pair) (n .instead) (reverse (n .before))
   pub fair-later : FairAfter (n .pair) (reverse (n .later)) (n .broken ∷ reverse (n .before))
-  pub blocked : Blocked (reverse (n .later) ++ n .broken ∷ reverse (n .before)) (n .answer)
+  pub blocked : BlockedArrival (reverse (n .later) ++ n .broken ∷ reverse (n .before)) (n .answer)
 
 abbrev computes : (n : Need) → Test (Computed n)
 computes n =
@@ -75,7 +75,7 @@ legal-after P [] L later legal = legal
 legal-after P (x ∷ N) L later legal = (later .0, legal-after P N L (later .1) legal)
 
 -- an arrival that is blocked is on no list that is legal
-not-blocked : (L : List Seen) (n : ℕ) → NeverBlocked M one L → Blocked L n → ⊥
+not-blocked : (L : List Seen) (n : ℕ) → NeverBlocked M one L → BlockedArrival L n → ⊥
 not-blocked [] n passes here = here
 not-blocked (send p ∷ L) n passes here = here
 not-blocked (call q (opening k p) ∷ L) n passes here = here

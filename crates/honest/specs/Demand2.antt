@@ -2,6 +2,7 @@
 -- Lists are newest first: in a ∷ l, a comes after all of l.
 use Prim.Native.Nat.{ℕ, _≤_}
 use mathlib.Core.Path.{_≡_}
+use mathlib.Core.Logic.{_⊎_}
 use mathlib.Core.List.{List, [], _∷_}
 use Rattle.rows.specs.Rows as rows
 use Rattle.rows.specs.Rows.{Bodies, Ask, View, Outcome, freeEntry, clockUsed, senderOf, filter, answerOf, placeBy, after, nowhere}
@@ -36,11 +37,14 @@ pub record FoundFromStage2 (v : View histories) (a : Ask) (p : ℕ) : Type 0 whe
   pub match : rows.search histories v (clockUsed histories v a) (a .side) (a .key) ≡ At p
   pub stage : 2 ≤ stageOf (v .entry p .connection .segments)
 
--- then the answer speaks of all places on the line that have the segment's 32 bits: 14 says that no place at all meets I and II
-abbrev pub AnswersByAllPlaces : View histories → Ask → (answer : ℕ) → Type 0
-AnswersByAllPlaces v a answer =
-    (p : ℕ) → FoundFromStage2 v a p →
-    ByAllPlaces (v .entry p .connection .segments) (senderOf histories (v .entry p) (a .side)) (a .segment) answer
+-- an answer speaks of all places on the line that have the segment's 32 bits
+pub record AnswersByAllPlaces (v : View histories) (a : Ask) (answer : ℕ) : Type 0 where
+  -- 14 and 15 are given only where such a history has been found
+  pub found : (answer ≡ 14) ⊎ (answer ≡ 15) → (p : ℕ) × FoundFromStage2 v a p
+  -- and there 14 says that no place at all meets I and II; 15, that one does, ACK is set, and none meets III and IV; 0, that they are met
+  pub places :
+      (p : ℕ) → FoundFromStage2 v a p →
+      ByAllPlaces (v .entry p .connection .segments) (senderOf histories (v .entry p) (a .side)) (a .segment) answer
 
 -- after a list of calls the table is that of the histories in numbers, and the next call has the answer and the place that they give,
 -- whatever the numbers of the places are

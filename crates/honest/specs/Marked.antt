@@ -6,7 +6,7 @@ use Rattle.choice.specs.Choice.{_=ᵇ_, if_then_else_}
 use Rattle.address.specs.Flows.{reversed}
 use Rattle.segment.specs.Flags.{SYN, SYN+ACK, ACK}
 use Rattle.segment.specs.declared.Segment.{Segment}
-use Rattle.connection.specs.Ends.{opener, answerer, sender}
+use Rattle.connection.specs.Ends.{opener, answerer, recordOf}
 use Rattle.connection.specs.declared.End.{End}
 use Rattle.rows.specs.Rows as rows
 use Rattle.rows.specs.Rows.{Entry, View, Ask, Passed, filter, answerOf, placeBy, nowhere}
@@ -110,8 +110,8 @@ sameEnd e f = (e .end .0 =ᵇ f .end .0) && ((e .edge .0 =ᵇ f .edge .0) && (e 
 
 abbrev pub isLeft : Left → List End → Bool
 isLeft anything l = true
-isLeft (ends o a) l = sameEnd (sender l opener) o && sameEnd (sender l answerer) a
-isLeft (answererEdge n) l = sender l answerer .edge .0 =ᵇ n
+isLeft (ends o a) l = sameEnd (recordOf l opener) o && sameEnd (recordOf l answerer) a
+isLeft (answererEdge n) l = recordOf l answerer .edge .0 =ᵇ n
 
 -- the rows give the answer, place 0 with a pass, and leave what is said
 abbrev pub holds : Case → Bool

@@ -1,5 +1,6 @@
 -- Premises of demand 3 are needed: for each that a comment below names, a list that is legal but for one event, which breaks it, and in which
--- an arrival is then blocked. All is on a fresh table of one place. docs/DECISIONS.md names the premises of which no such list is known.
+-- an arrival is then blocked, on a fresh table of one place. Which premise that is, the comment says: the event that would have been fair
+-- instead differs in one number where it can. docs/DECISIONS.md names the premises without a list.
 use Prim.Native.Nat.{ℕ, _-_, _^_}
 use mathlib.Core.Path.{_≡_}
 use mathlib.Core.List.{List, [], _∷_, _++_, reverse}
@@ -38,20 +39,20 @@ FairAfter P [] L = Unit {0}
 FairAfter P (x ∷ N) L = Fair M one P x (N ++ L) × FairAfter P N L
 
 -- the newest event is an arrival, with an answer that is no pass
-abbrev pub Blocked : List Seen → ℕ → Type 0
-Blocked [] answer = ⊥
-Blocked (send p ∷ L) answer = ⊥
-Blocked (call q (opening k p) ∷ L) answer = ⊥
-Blocked (call q (arrival k p) ∷ L) answer = (said M one L q .answer ≡ answer) × (answer ≡ 0 → ⊥)
-Blocked (call q other ∷ L) answer = ⊥
-Blocked (delivery k p ∷ L) answer = ⊥
+abbrev pub BlockedArrival : List Seen → ℕ → Type 0
+BlockedArrival [] answer = ⊥
+BlockedArrival (send p ∷ L) answer = ⊥
+BlockedArrival (call q (opening k p) ∷ L) answer = ⊥
+BlockedArrival (call q (arrival k p) ∷ L) answer = (said M one L q .answer ≡ answer) × (answer ≡ 0 → ⊥)
+BlockedArrival (call q other ∷ L) answer = ⊥
+BlockedArrival (delivery k p ∷ L) answer = ⊥
 
 pub record Shown (n : Need) : Type 0 where
   pub legal-before : Legal M one (n .pair) (reverse (n .before))
   pub not-fair : Fair M one (n .pair) (n .broken) (reverse (n .before)) → ⊥
   pub fair-instead : Fair M one (n .pair) (n .instead) (reverse (n .before))
   pub fair-later : FairAfter (n .pair) (reverse (n .later)) (n .broken ∷ reverse (n .before))
-  pub blocked : Blocked (reverse (n .later) ++ n .broken ∷ reverse (n .before)) (n .answer)
+  pub blocked : BlockedArrival (reverse (n .later) ++ n .broken ∷ reverse (n .before)) (n .answer)
 
 abbrev pub AllShown : List Need → Type 0
 AllShown [] = Unit {0}
@@ -74,23 +75,23 @@ through k p = sends p ∷ comes k 0 p ∷ got k p ∷ []
 
 -- The handshake, with windows of 1000
 
-abbrev syn : Piece
-syn = opener's SYN 0 1 0 1000 tt
+abbrev firstSyn : Piece
+firstSyn = opener's SYN 0 1 0 1000 tt
 
-abbrev synAck : Piece
-synAck = answerer's SYN+ACK 0 1 1 1000 tt
+abbrev firstSynAck : Piece
+firstSynAck = answerer's SYN+ACK 0 1 1 1000 tt
 
-abbrev ack : Piece
-ack = opener's ACK 1 0 1 1000 tt
+abbrev firstAck : Piece
+firstAck = opener's ACK 1 0 1 1000 tt
 
 abbrev synThrough : List Seen
-synThrough = sends syn ∷ opensAt 0 syn ∷ got 0 syn ∷ []
+synThrough = sends firstSyn ∷ opensAt 0 firstSyn ∷ got 0 firstSyn ∷ []
 
 abbrev synAckThrough : List Seen
-synAckThrough = synThrough ++ through 0 synAck
+synAckThrough = synThrough ++ through 0 firstSynAck
 
 abbrev handshake : List Seen
-handshake = synAckThrough ++ through 1 ack
+handshake = synAckThrough ++ through 1 firstAck
 
 -- 2,000 octets of the opener, the first half acknowledged: its end is 2001, and bound II asks for 1001 or above
 abbrev openerAhead : List Seen
@@ -130,17 +131,17 @@ acksNothing = record { line = record { from = opener; flags = ACK; start = 2 ^ 3
 abbrev pub ofSendings : List Need
 ofSendings =
     -- the opener "repeats only that": a SYN with another number
-    need (sends syn ∷ opensAt 0 syn ∷ []) (sends (opener's SYN 1 1 0 1000 tt)) (sends syn)
+    need (sends firstSyn ∷ opensAt 0 firstSyn ∷ []) (sends (opener's SYN 1 1 0 1000 tt)) (sends firstSyn)
     (comes 1 0 (opener's SYN 1 1 0 1000 tt) ∷ []) 13
     -- "until it receives a SYN+ACK, and never again after"
-    ∷ need (handshake ++ openerAhead) (sends syn) (sends (opener's ACK 1001 0 1 1000 tt)) (comes 4 0 syn ∷ []) 14
+    ∷ need (handshake ++ openerAhead) (sends firstSyn) (sends (opener's ACK 1001 0 1 1000 tt)) (comes 4 0 firstSyn ∷ []) 14
     -- the answerer "sends SYN+ACK acknowledging the SYN's end"
-    ∷ need synThrough (sends (answerer's SYN+ACK 0 1 2 1000 tt)) (sends synAck) (comes 0 0 (answerer's SYN+ACK 0 1 2 1000 tt) ∷ []) 13
+    ∷ need synThrough (sends (answerer's SYN+ACK 0 1 2 1000 tt)) (sends firstSynAck) (comes 0 0 (answerer's SYN+ACK 0 1 2 1000 tt) ∷ []) 13
     -- "repeats only that"
-    ∷ need synAckThrough (sends (answerer's SYN+ACK 70000 1 1 1000 tt)) (sends synAck) (comes 1 0 (answerer's SYN+ACK 70000 1 1 1000 tt) ∷ []) 14
+    ∷ need synAckThrough (sends (answerer's SYN+ACK 70000 1 1 1000 tt)) (sends firstSynAck) (comes 1 0 (answerer's SYN+ACK 70000 1 1 1000 tt) ∷ []) 14
     -- "until it receives an ACK"
-    ∷ need (handshake ++ answererAhead) (sends synAck) (sends (answerer's ACK 1001 0 1 1000 tt)) (comes 3 0 synAck ∷ []) 14
-    -- "Every later segment": one sent before that
+    ∷ need (handshake ++ answererAhead) (sends firstSynAck) (sends (answerer's ACK 1001 0 1 1000 tt)) (comes 3 0 firstSynAck ∷ []) 14
+    -- "Every later segment": one sent before an ACK is received
     ∷ record {
       pair = zeroPair;
       before = sends zeroSyn ∷ opensAt 0 zeroSyn ∷ got 0 zeroSyn ∷ [];
@@ -156,13 +157,13 @@ ofSendings =
     ∷ need handshake (sends (opener's ACK 1 1001 1 1000 tt)) (sends (opener's ACK 1 1000 1 1000 tt))
     (comes 2 0 (opener's ACK 1 1001 1 1000 tt) ∷ []) 14
     -- "acknowledges no less than the end of the other end's SYN"
-    ∷ need synAckThrough (sends acksNothing) (sends ack) (comes 1 0 acksNothing ∷ []) 15
+    ∷ need synAckThrough (sends acksNothing) (sends firstAck) (comes 1 0 acksNothing ∷ []) 15
     -- "and no further than the highest end received": one octet further
-    ∷ need handshake (sends (opener's ACK 1 0 2 1000 tt)) (sends ack) (comes 2 0 (opener's ACK 1 0 2 1000 tt) ∷ []) 15
+    ∷ need handshake (sends (opener's ACK 1 0 2 1000 tt)) (sends firstAck) (comes 2 0 (opener's ACK 1 0 2 1000 tt) ∷ []) 15
     -- "An end's acknowledgement numbers never fall in sending order."
     ∷ need
     (sends (opener's SYN 0 1 0 65535 tt) ∷ opensAt 0 (opener's SYN 0 1 0 65535 tt) ∷ got 0 (opener's SYN 0 1 0 65535 tt)
-    ∷ (through 0 synAck ++ (through 1 (opener's ACK 1 0 1 65535 tt)
+    ∷ (through 0 firstSynAck ++ (through 1 (opener's ACK 1 0 1 65535 tt)
     ++ (through 1 (answerer's ACK 1 65495 1 1000 tt) ++ (through 2 (opener's ACK 1 0 65496 65535 tt)
     ++ through 2 (answerer's ACK 65496 65495 1 1000 tt))))))
     (sends (opener's ACK 1 0 1 65535 tt)) (sends (opener's ACK 1 0 65496 65535 tt)) (comes 3 0 (opener's ACK 1 0 1 65535 tt) ∷ []) 15
@@ -173,24 +174,27 @@ ofSendings =
 abbrev pub ofCalls : List Need
 ofCalls =
     -- "An arrival is a call that brings an end's segment": one that brings another segment than it is called
-    need handshake (call (brings 0 (opener's ACK 900000 0 1 1000 tt)) (arrival 1 (ack .line))) (comes 1 0 ack) [] 14
+    need handshake (call (brings 0 (opener's ACK 900000 0 1 1000 tt)) (arrival 1 (firstAck .line))) (comes 1 0 firstAck) [] 14
     -- "each later than its sending": before it
-    ∷ need synThrough (comes 1 0 ack) (comes 0 0 syn) [] 13
+    ∷ need synThrough (comes 1 0 firstAck) (comes 0 0 firstSyn) [] 13
     -- "Each end's arrivals are its sendings in order": the opener's ACK comes after what was sent later
-    ∷ need (handshake ++ openerAhead) (comes 1 0 ack) (comes 3 0 (opener's ACK 1001 1000 1 1000 tt)) [] 14
+    ∷ need (handshake ++ openerAhead) (comes 1 0 firstAck) (comes 3 0 (opener's ACK 1001 1000 1 1000 tt)) [] 14
+    -- "The opening is an arrival": of a SYN that the opener hasn't sent
+    ∷ need (sends firstSyn ∷ []) (opensAt 0 (opener's SYN 5 1 0 1000 tt)) (opensAt 0 firstSyn)
+    (got 0 (opener's SYN 5 1 0 1000 tt) ∷ sends firstSynAck ∷ comes 0 0 firstSynAck ∷ []) 13
     -- one call is the opening ("what passed on an earlier entry of the same ports doesn't count"): a second one, once the first has expired,
     -- and an answerer that goes on as if nothing had been
-    ∷ need handshake (opensAt 432000000 syn) (uncounted 432000000 syn)
+    ∷ need handshake (opensAt 432000000 firstSyn) (uncounted 432000000 firstSyn)
     (sends (answerer's ACK 1 10 1 1000 tt) ∷ comes 1 432000000 (answerer's ACK 1 10 1 1000 tt) ∷ []) 13
     -- "that finds no live match": it passes on an earlier connection of the same ports, by its ranges
-    ∷ need (uncounted 0 syn ∷ uncounted 0 (answerer's SYN+ACK 70000 1 1 1000 tt) ∷ sends syn ∷ []) (opensAt 0 syn) (opensAt 60000 syn)
-    (got 0 syn ∷ sends synAck ∷ comes 0 0 synAck ∷ []) 14
+    ∷ need (uncounted 0 firstSyn ∷ uncounted 0 (answerer's SYN+ACK 70000 1 1 1000 tt) ∷ sends firstSyn ∷ []) (opensAt 0 firstSyn) (opensAt 60000 firstSyn)
+    (got 0 firstSyn ∷ sends firstSynAck ∷ comes 0 0 firstSynAck ∷ []) 14
     -- "a call that is no arrival .. isn't passed on the opening's entry": a reset that no end has sent
-    ∷ need synAckThrough (uncounted 0 (opener's ACK+RST 1 0 1 1000 tt)) (uncounted 0 (opener's ACK+RST 900000 0 1 1000 tt)) (comes 0 0 synAck ∷ []) 11
+    ∷ need synAckThrough (uncounted 0 (opener's ACK+RST 1 0 1 1000 tt)) (uncounted 0 (opener's ACK+RST 900000 0 1 1000 tt)) (comes 0 0 firstSynAck ∷ []) 11
     -- "A segment is delivered only after an arrival of it .. was answered 0": one that has not arrived
-    ∷ need (synThrough ++ (sends synAck ∷ [])) (got 0 synAck) (got 0 syn) (sends ack ∷ comes 1 0 ack ∷ []) 13
+    ∷ need (synThrough ++ (sends firstSynAck ∷ [])) (got 0 firstSynAck) (got 0 firstSyn) (sends firstAck ∷ comes 1 0 firstAck ∷ []) 13
     -- "the connection is live": at the deadline
-    ∷ need (synThrough ++ (sends synAck ∷ [])) (comes 0 60000 synAck) (comes 0 59999 synAck) [] 11
+    ∷ need (synThrough ++ (sends firstSynAck ∷ [])) (comes 0 60000 firstSynAck) (comes 0 59999 firstSynAck) [] 11
     ∷ []
 
 -- The claim

@@ -81,7 +81,7 @@ module _ {Call : Type 0} where
   receivedBy i (call q l ∷ L) = receivedBy i L
   receivedBy i (delivery k p ∷ L) = if p .from =ᵇ i then receivedBy i L else p ∷ receivedBy i L
 
--- the highest of a number over segments, 0 over none: an end that may send more than its first segment has received one (`after-answer`)
+-- the highest of a number over segments, 0 over none: an end that may send a later segment has received one (`after-answer`)
 unfoldable pub highest : (LineSegment → ℕ) → List LineSegment → ℕ
 highest f [] = 0
 highest f (p ∷ l) = max (f p) (highest f l)

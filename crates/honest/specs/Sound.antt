@@ -16,7 +16,7 @@ SoundView v =
     (p : ℕ) → p < v .places →
     (v .entry p ≡ freeEntry connections) ⊎ (soundConnection (v .clock) (v .entry p .connection) ≡ true)
 
--- its numbers are as their types have them: each connection has two ends, with 32-bit numbers
+-- each connection has two records, with 32-bit sequence numbers
 abbrev pub TwoEnded : Connection → Type 0
 TwoEnded c = (x : ℕ → End) × TwoEnds c x
 

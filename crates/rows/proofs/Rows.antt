@@ -63,6 +63,16 @@ module _ (B : Bodies) where
   unfolding onEntry
   onEntry-by-verdict e p now side g v h = rw h
 
+  -- where none matches the answer is 11, 12 or 0
+  pub unmatched-answer : (v : View B) (now side : ℕ) (k : Flow) (g : Segment) → answerOf B (unmatched B v now side k g) ≤ 12
+  unfolding unmatched
+  unmatched-answer v now side k g =
+      if-either (λ (o : Outcome B). answerOf B o ≤ 12) (isOpening side g) _ _ (taken (lowestVacant B v now)) (omega arith)
+    where
+      taken : (r : Found) → answerOf B (onVacant B r now side k g) ≤ 12
+      taken Nothing = omega arith
+      taken (At p) = omega arith
+
   -- a verdict's number is the answer
   pub answer-by-verdict : (w : Verdict) (p now : ℕ) (e : Entry B) → answerOf B (byVerdict B w (Passed p now e)) ≡ verdictNumber w
   answer-by-verdict Pass p now e = refl
