@@ -30,6 +30,6 @@ wrongSum = spoilt 8 1 63 (bytesCall (brings 180900 (o 4) .0))
 abbrev pub fragment : BytesCall
 fragment = spoilt 6 3 0x200020 (bytesCall (brings 181900 (o 5) .0))
 
--- each right before the arrival of the packet that it was made from, which is 40th and 48th from the end
+-- each right before the arrival of the packet that it was made from: the fragment 40th from the end, the wrong sum 48th
 abbrev pub bytesWitness : List (Event BytesCall)
 bytesWitness = withOther 40 fragment (withOther 48 wrongSum madeWitness)

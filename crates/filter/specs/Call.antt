@@ -78,7 +78,7 @@ ipv4Outcome side clock t packet = outcomeOf V4 side clock t (readIPv4 packet)
 abbrev pub replyOf : Outcome → Reply
 replyOf o = record { answer = answerOf connections o; place = placeBy (λ p. p) o }
 
--- the table with another header clock and another entry at a place
+-- the table with the clock used in its header and another entry at a place
 abbrev pub withEntry : Version → List ℕ → ℕ → ℕ → Entry → List ℕ
 withEntry v t p now e = overwrite (overwrite t clockAt (octetsOf 8 now)) (placeAt v p) (entryBytes v e)
 

@@ -1,6 +1,6 @@
 -- Premises of demand 3 are needed: for each that a comment below names, a list that is legal but for one event, which breaks it, and in which
--- an arrival is then blocked, on a fresh table of one place. Which premise that is, the comment says: the event that would have been fair
--- instead differs in one number where it can. docs/DECISIONS.md names the premises without a list.
+-- an arrival is then blocked, on a fresh table of one place. That the event breaks this premise and no other is for the reader to see, not in
+-- the type: `instead`, which would have been fair, differs in one number where it can. docs/DECISIONS.md names the premises without a list.
 use Prim.Native.Nat.{ℕ, _-_, _^_}
 use mathlib.Core.Path.{_≡_}
 use mathlib.Core.List.{List, [], _∷_, _++_, reverse}

@@ -179,7 +179,7 @@ module _ (B : Bodies) where
   answerOf (Blocked n) = n
   answerOf (Passed p now e) = 0
 
-  -- a pass changes only the header clock and that entry; every other answer changes nothing
+  -- a pass changes only the header clock ("A pass stores it in the header": the clock used) and that entry; every other answer changes nothing
   abbrev pub after : View → Outcome → View
   after v (Blocked n) = v
   after v (Passed p now e) = record { clock = now; places = v .places; entry = λ q. if q =ᵇ p then e else v .entry q }
