@@ -1,7 +1,7 @@
 -- What is asked of a reader is needed, by one call on a fresh table of one place.
 use Prim.Native.Nat.{ℕ, _^_}
 use mathlib.Core.Path.{_≡_, refl, sym, ap, _∙_}
-use mathlib.Core.Bool.{true, false}
+use mathlib.Core.Bool.{false}
 use mathlib.Core.List.{List, [], _∷_}
 use native.Mathlib.Omega.{arith}
 use Rattle.choice.specs.Choice.{if_then_else_}
@@ -27,7 +27,7 @@ use Rattle.filter.specs.Call.{placesIn, tableOf, outcomeOf}
 use Rattle.honest.specs.Histories.{histories, inNumbers}
 use Rattle.honest.specs.Demand2.{viewAfter, asked, stateAfter}
 use Rattle.demands.specs.Bytes.{BytesCall, readingOf, bytesMachine}
-use Rattle.demands.specs.Demands.{freshBytes, Demands}
+use Rattle.demands.specs.Demands.{freshBytes}
 use Rattle.demands.specs.Readers.{wideWindow, wideAddress, ReaderNeeded}
 
 -- any call

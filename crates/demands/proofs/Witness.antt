@@ -1,7 +1,7 @@
 -- The witness on bytes is legal, since its packets are read as what they were made from, or refused, and so its arrivals all pass.
 use Prim.Native.Nat.{ℕ, _≤_}
 use mathlib.Core.Path.{_≡_, refl, ap, _∙_}
-use mathlib.Core.List.{List, [], _∷_}
+use mathlib.Core.List.{List}
 use native.Mathlib.Omega.{arith}
 use Rattle.choice.specs.Choice.{if_then_else_}
 use Rattle.serial.specs.Ring.{wrap}

@@ -2,3 +2,4 @@ pub mod Length
 pub mod Call
 pub mod Decision
 pub mod Ignored
+pub mod Order

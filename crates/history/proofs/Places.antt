@@ -18,7 +18,7 @@ use Rattle.connection.specs.Ranges.{ackRange}
 use Rattle.connection.specs.Decision.{verdictNumber, opened}
 use Rattle.connection.specs.declared.Verdict.{Verdict}
 use Rattle.connection.specs.declared.Verdict.the-variants.{Pass, SequenceMissed, AckMissed}
-use Rattle.history.specs.Numbers.{Numbers, boundsI-II, boundsIII-IV}
+use Rattle.history.specs.Numbers.{boundsI-II, boundsIII-IV}
 use Rattle.history.specs.History.{LineSegment, numbersOf, stageOf, standsBy, placed, judgeUnanswered, judge, Placeable}
 use Rattle.history.specs.Places.{MetFrom, AcksAt, ByAllPlaces}
 use Rattle.history.specs.Demand2.{connectionAfter, historyAfter, openingHistory, Uniqueness}

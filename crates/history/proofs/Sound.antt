@@ -25,7 +25,7 @@ use Rattle.connection.specs.declared.Verdict.the-variants.{Pass}
 use Rattle.connection.proofs.Stages.{stageAfter≥2}
 use Rattle.connection.proofs.Sound.{soundFins-to-3, soundFins≤3, finsAfter≤3, stageAfter-sound, soundEnd-true, true-soundEnd, widened-sound, unheard-sound, lifeOf≤, Facts, sound-facts, facts-sound}
 use Rattle.history.specs.Numbers.{Numbers, onRing}
-use Rattle.history.specs.History.{LineSegment, onWire, placedBy, Formed, Placeable}
+use Rattle.history.specs.History.{LineSegment, onWire, placedBy, Formed}
 use Rattle.history.specs.Kept.{OpenedSound, PassedSound}
 use Rattle.history.specs.Records.{SeqNumsFit, TwoEnds}
 use Rattle.history.proofs.Step.{Spans, Near, sequence-line, ackRange-small, ack-line, sent-line, granted-line, sentTo-spans, grantedTo-spans}

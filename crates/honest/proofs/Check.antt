@@ -7,7 +7,7 @@ use mathlib.Core.List.{List, [], _∷_}
 use native.Mathlib.Omega.{arith}
 use lib.ListN.{length}
 use borrow.Author.Tests.{not-true, ltb-true, leb-true, eq-eqb, eqb-true, lt-ltb}
-use Rattle.choice.specs.Choice.{if_then_else_, _<ᵇ_, _≤ᵇ_, _=ᵇ_}
+use Rattle.choice.specs.Choice.{_<ᵇ_, _≤ᵇ_, _=ᵇ_}
 use Rattle.choice.proofs.Tests.{&&-true, ||-true, false-true}
 use Rattle.address.specs.Flows.{sameFlow}
 use Rattle.address.specs.declared.Flow.{Flow}

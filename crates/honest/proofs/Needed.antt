@@ -1,9 +1,8 @@
 -- Premises of demand 3 are needed: each list by computation, and that its event is not fair by demand 3 itself.
 use Prim.Native.Nat.{ℕ, _≤_}
 use mathlib.Core.Path.{_≡_, refl, sym, _∙_}
-use mathlib.Core.Bool.{Bool, true, not}
+use mathlib.Core.Bool.{true, not}
 use mathlib.Core.List.{List, [], _∷_, _++_, reverse}
-use native.Mathlib.Omega.{arith}
 use borrow.Author.Tests.{not-true, eqb-false}
 use Rattle.choice.specs.Choice.{if_then_else_, _=ᵇ_}
 use Rattle.serial.specs.Ring.{wrap, ringPlus, ringMinus, nearest}

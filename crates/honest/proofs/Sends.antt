@@ -13,7 +13,7 @@ use Rattle.choice.proofs.Choice.{if-true, if-false, if-either, if-=, if-=-not}
 use Rattle.choice.proofs.Tests.{false-true}
 use Rattle.segment.specs.Flags.{syn, rst, ack, SYN, SYN+ACK}
 use Rattle.history.specs.History.{LineSegment, numbersOf, Formed}
-use Rattle.honest.specs.Rules.{Label, Event, send, call, delivery, Pair, sentBy, Sent, receivedBy, highest, some, ackOf, edgeOf, endOf, hasAnswer, OpenersSyn, AnswerersSynAck, LaterSegment, Allowed, openers-syn, answerers-syn-ack, later}
+use Rattle.honest.specs.Rules.{Label, Event, send, call, delivery, Pair, sentBy, Sent, receivedBy, highest, some, ackOf, edgeOf, endOf, hasAnswer, LaterSegment, Allowed, openers-syn, answerers-syn-ack, later}
 use Rattle.honest.proofs.Lists.{In, highest-up, highest-lub, some-in, in-some, endBy-mine, windowBy-mine, edgeBy-theirs, numbers-up, win-some}
 
 -- Sendings with their snapshots

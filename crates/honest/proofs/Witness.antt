@@ -1,7 +1,6 @@
 -- The witness is legal, by computation, and so its arrivals all pass.
 use mathlib.Core.Path.{_≡_, refl}
 use mathlib.Core.Bool.{true}
-use mathlib.Core.List.{[], _∷_}
 use native.Mathlib.Omega.{arith}
 use Rattle.choice.specs.Choice.{if_then_else_}
 use Rattle.serial.specs.Ring.{wrap, ringPlus, ringMinus, nearest}

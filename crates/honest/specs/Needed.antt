@@ -10,9 +10,9 @@ use Rattle.rows.specs.Rows.{View}
 use Rattle.rows.specs.Connections.{connections}
 use Rattle.rows.specs.Examples.{outward}
 use Rattle.honest.specs.Machine.{Machine}
-use Rattle.honest.specs.Rules.{opening, arrival, other, Event, send, call, delivery, Pair}
+use Rattle.honest.specs.Rules.{opening, arrival, other, send, call, delivery, Pair}
 use Rattle.honest.specs.Honest.{said, Fair, Legal}
-use Rattle.honest.specs.Instance.{ViewCall, viewMachine}
+use Rattle.honest.specs.Instance.{viewMachine}
 use Rattle.honest.specs.Demand2.{fresh}
 use Rattle.honest.specs.Witness.{pair, Piece, opener's, answerer's, brings, Seen, sends, opens, arrives, delivers, uncounted}
 

@@ -1,0 +1,32 @@
+-- The first line that applies wins, by computation.
+use mathlib.Core.Path.{refl}
+use Rattle.choice.specs.Choice.{if_then_else_}
+use Rattle.octets.specs.Digits.{tabulate, number}
+use Rattle.octets.specs.BigEndian.{bigEndian}
+use Rattle.address.specs.Flows.{sameFlow}
+use Rattle.packet.specs.Read.{rows6to8, ipv4Header, row10, rows9to10}
+use Rattle.packet.specs.Sum.{onesPlus, onesSum}
+use Rattle.connection.specs.Sound.{soundFins, soundEnd, soundUnanswered, soundConnection}
+use Rattle.rows.specs.Places.{firstFrom}
+use Rattle.rows.specs.Rows.{fromOpener, fromAnswerer, liveMatch, unmatched, onSegment}
+use Rattle.entry.specs.Layout.{connectionAt, entryAt, placeAt}
+use Rattle.table.specs.Table.{zerosAt, allFrom, headerClock, soundHeader, freeAt, soundAt, soundTable}
+use Rattle.filter.specs.Length.{legalLength, placesFor}
+use Rattle.filter.specs.Call.{outcomeOf}
+use Rattle.filter.specs.Order.{FirstThatApplies}
+
+pub first-that-applies : FirstThatApplies
+unfolding rows6to8 ipv4Header row10 rows9to10 onesPlus onesSum tabulate number bigEndian connectionAt entryAt placeAt zerosAt allFrom headerClock soundHeader freeAt soundAt soundTable firstFrom fromOpener fromAnswerer liveMatch unmatched onSegment sameFlow legalLength placesFor outcomeOf soundFins soundEnd soundUnanswered soundConnection if_then_else_
+first-that-applies = record {
+  row-1 = refl;
+  row-2 = refl;
+  row-3 = refl;
+  row-4 = refl;
+  row-5 = refl;
+  row-6 = refl;
+  row-7 = refl;
+  row-8 = refl;
+  row-9 = refl;
+  row-10 = refl;
+  row-11 = refl;
+}
