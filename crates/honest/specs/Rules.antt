@@ -141,7 +141,7 @@ module _ (P : Pair) {Call : Type 0} (p : LineSegment) (L : List (Event Call)) wh
     pub acks-received : p .acked ≤ highest endOf (receivedBy (p .from) L)
     -- "An end's acknowledgement numbers never fall in sending order."
     pub acks-rise : highest ackOf (sentBy (p .from) L) ≤ p .acked
-    -- the order, demand 3: no reset is sent
+    -- demand 3: no reset is sent
     pub no-reset : rst (p .flags) ≡ 0
 
   pub data Allowed : Type 0 where
