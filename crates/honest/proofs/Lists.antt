@@ -10,7 +10,7 @@ use borrow.Author.Tests.{eq-eqb, ne-eqb, eqb-true, eqb-false}
 use Rattle.choice.specs.Choice.{_=ᵇ_, _≠ᵇ_}
 use Rattle.choice.proofs.Choice.{if-true, if-false, if-either, if-=-not}
 use Rattle.choice.proofs.Tests.{||-true, false-true}
-use Rattle.segment.specs.Flags.{rst}
+use Rattle.segment.specs.Flags.{rst, ack}
 use Rattle.history.specs.History.{LineSegment, numbersOf, endBy, edgeBy, windowBy}
 use Rattle.honest.specs.Rules.{highest, some, edgeOf, endOf}
 
@@ -57,8 +57,16 @@ module _ (i : ℕ) (p : LineSegment) (no-reset : rst (p .flags) ≡ 1 → ⊥) w
   pub windowBy-mine : p .from ≡ i → windowBy i p ≡ p .window
   windowBy-mine mine = if-true _ _ _ (rw (eq-eqb (p .from) i mine, ne-eqb (rst (p .flags)) 1 no-reset))
 
-  pub edgeBy-theirs : (p .from ≡ i → ⊥) → edgeBy i p ≡ edgeOf p
-  edgeBy-theirs theirs = if-=-not _ _ no-reset ∙ if-=-not _ _ theirs
+  -- a right edge that is received is one that has passed
+  pub edgeOf≤edgeBy : (p .from ≡ i → ⊥) → edgeOf p ≤ edgeBy i p
+  edgeOf≤edgeBy theirs = by (eqb (ack (p .flags)) 1) refl
+    where
+      by : (t : Bool) → eqb (ack (p .flags)) 1 ≡ t → edgeOf p ≤ edgeBy i p
+      by true e =
+          let received : edgeOf p ≡ _ = if-true _ _ _ e in
+          let passed : edgeBy i p ≡ _ = if-=-not _ _ no-reset ∙ if-=-not _ _ theirs ∙ if-true _ _ _ e in
+          omega (arith, received, passed)
+      by false e = let received : edgeOf p ≡ _ = if-false _ _ _ e in omega (arith, received)
 
 pub endBy-theirs : (i : ℕ) (p : LineSegment) → (p .from ≡ i → ⊥) → endBy i p ≡ 0
 endBy-theirs i p theirs = if-false _ _ _ (rw (ne-eqb (p .from) i theirs))

@@ -14,7 +14,7 @@ use Rattle.choice.proofs.Tests.{false-true}
 use Rattle.segment.specs.Flags.{syn, rst, ack, SYN, SYN+ACK}
 use Rattle.history.specs.History.{LineSegment, numbersOf, Formed}
 use Rattle.honest.specs.Rules.{Label, Event, send, call, delivery, Pair, sentBy, Sent, receivedBy, highest, some, ackOf, edgeOf, endOf, hasAnswer, LaterSegment, Allowed, openers-syn, answerers-syn-ack, later}
-use Rattle.honest.proofs.Lists.{In, highest-up, highest-lub, some-in, in-some, endBy-mine, windowBy-mine, edgeBy-theirs, numbers-up, win-some}
+use Rattle.honest.proofs.Lists.{In, highest-up, highest-lub, some-in, in-some, endBy-mine, windowBy-mine, edgeOf≤edgeBy, numbers-up, win-some}
 
 -- Sendings with their snapshots
 
@@ -302,7 +302,7 @@ module _ {Call : Type 0} (P : Pair) where
     pub heard-edges : highest edgeOf (receivedBy i L) ≤ numbersOf i h .edge
     heard-edges = highest-lub edgeOf _ (receivedBy i L) (λ g there.
         let f = received-fact g there .1 in
-        rw (edgeBy-theirs i g (f .no-reset) (inv .received i g there .1)) at (numbers-up i g h (inv .received i g there .0) .1))
+        omega (arith, edgeOf≤edgeBy i g (f .no-reset) (inv .received i g there .1), numbers-up i g h (inv .received i g there .0) .1))
 
     pub heard-acks : highest ackOf (receivedBy i L) ≤ highest (ackFrom (1 - i)) h
     heard-acks = highest-lub ackOf _ (receivedBy i L) (λ g there.
@@ -323,8 +323,9 @@ module _ {Call : Type 0} (P : Pair) where
             by : (t : Bool) → eqb (ack (g .flags)) 1 ≡ t → edgeOf g ≤ top + win
             by true e =
                 let a : ackOf g ≡ g .acked = if-true _ _ _ e in
-                rw (if-true (ack (g .flags) =ᵇ 1) (g .acked + max (g .window) 1) 0 e) (omega (arith, a))
-            by false e = rw (if-false (ack (g .flags) =ᵇ 1) (g .acked + max (g .window) 1) 0 e) (omega arith)
+                let edge : edgeOf g ≡ _ = if-true _ _ _ e in
+                omega (arith, a, edge)
+            by false e = let edge : edgeOf g ≡ _ = if-false _ _ _ e in omega (arith, edge)
 
     -- an end that is answered has received an acknowledgement of its SYN
     pub answered-heard : hasAnswer i L ≡ true → P .start i + 1 ≤ highest ackOf (receivedBy i L)
