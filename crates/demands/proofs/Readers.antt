@@ -37,16 +37,15 @@ one = record { side = 0; clock = 0; packet = []; octets = bytes-[] .small }
 abbrev left : (List ℕ → PacketRead) → List ℕ
 left read = stateAfter (bytesMachine V4 read) (freshBytes V4 1) (one ∷ [])
 
-unsound : soundTable V4 (left wideWindow) (placesIn V4 (left wideWindow)) ≡ false
-unfolding stateAfter tabulate number digits overwrite bigEndian octetsOf endBytes marksBytes flowBytes numbersBytes entryBytes connectionAt entryAt placeAt zerosAt allFrom headerClock soundHeader freeAt soundAt soundTable firstFrom fromOpener fromAnswerer liveMatch vacant openingEntry unmatched onSegment sameFlow legalLength placesFor outcomeOf opened soundFins soundEnd soundUnanswered soundConnection lifeOf wrap ringPlus ringMinus if_then_else_
-unsound = refl
-
 abbrev firstAddress : View connections → ℕ
 firstAddress v = v .entry 0 .key .from .address .low
 
-cut : firstAddress (tableOf V4 (left wideAddress)) ≡ 0
+-- a window that is unsound, and an address that is cut to 32 bits
+left-is :
+    (soundTable V4 (left wideWindow) (placesIn V4 (left wideWindow)) ≡ false)
+    × (firstAddress (tableOf V4 (left wideAddress)) ≡ 0)
 unfolding stateAfter tabulate number digits overwrite bigEndian octetsOf endBytes marksBytes flowBytes numbersBytes entryBytes connectionAt entryAt placeAt zerosAt allFrom headerClock soundHeader freeAt soundAt soundTable firstFrom fromOpener fromAnswerer liveMatch vacant openingEntry unmatched onSegment sameFlow legalLength placesFor outcomeOf opened soundFins soundEnd soundUnanswered soundConnection lifeOf wrap ringPlus ringMinus if_then_else_
-cut = refl
+left-is = (refl, refl)
 
 whole : firstAddress (inNumbers (viewAfter histories 1 (asked (bytesMachine V4 wideAddress) (one ∷ [])))) ≡ 2 ^ 32
 unfolding viewAfter asked readingOf firstFrom fromOpener fromAnswerer liveMatch vacant openingEntry unmatched onSegment sameFlow if_then_else_
@@ -54,8 +53,8 @@ whole = refl
 
 pub reader-needed : ReaderNeeded
 reader-needed = (
-  (λ d. false-true (sym unsound ∙ d .demand2 1 (omega arith) (omega arith) (one ∷ []) .2 .sound)),
+  (λ d. false-true (sym (left-is .0) ∙ d .demand2 1 (omega arith) (omega arith) (one ∷ []) .2 .sound)),
   (λ d.
       let same = d .demand2 1 (omega arith) (omega arith) (one ∷ []) .1 .table in
-      absurd (omega (arith, sym cut ∙ ap firstAddress same ∙ whole))),
+      absurd (omega (arith, sym (left-is .1) ∙ ap firstAddress same ∙ whole))),
 )

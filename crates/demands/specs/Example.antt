@@ -4,23 +4,18 @@ use mathlib.Core.Path.{_≡_}
 use mathlib.Core.List.{List, [], _∷_}
 use Rattle.address.specs.declared.Version.the-variants.{V4}
 use Rattle.filter.specs.Call.{ipv4Outcome, replyOf, tableAfter}
+use Rattle.filter.specs.Order.{ipv4}
 use Rattle.honest.specs.Marked as marked
 use Rattle.demands.specs.Demands.{freshBytes}
 use Rattle.demands.specs.Packets.{packetOf}
 
--- 20 bytes of an IPv4 header, from 10.0.0.x to 10.0.0.y, before 20 of TCP's
-abbrev ipv4 : ℕ → ℕ → List ℕ → List ℕ
-ipv4 x y tcp =
-    69 ∷ 0 ∷ 0 ∷ 40
-    ∷ 0 ∷ 0 ∷ 0 ∷ 0
-    ∷ 64 ∷ 6 ∷ 102 ∷ 206
-    ∷ 10 ∷ 0 ∷ 0 ∷ x
-    ∷ 10 ∷ 0 ∷ 0 ∷ y
-    ∷ tcp
+-- from 10.0.0.x to 10.0.0.y, 20 bytes of TCP's header
+abbrev carrying : (x y : ℕ) → List ℕ → List ℕ
+carrying x y tcp = ipv4 0x45 40 0 6 0x66 0xce x y tcp
 
 abbrev pub packet1 : List ℕ
 packet1 =
-    ipv4 1 2
+    carrying 1 2
     (4 ∷ 0 ∷ 0 ∷ 80
     ∷ 0 ∷ 0 ∷ 0 ∷ 100
     ∷ 0 ∷ 0 ∷ 0 ∷ 0
@@ -29,7 +24,7 @@ packet1 =
 
 abbrev pub packet2 : List ℕ
 packet2 =
-    ipv4 2 1
+    carrying 2 1
     (0 ∷ 80 ∷ 4 ∷ 0
     ∷ 0 ∷ 0 ∷ 1 ∷ 244
     ∷ 0 ∷ 0 ∷ 0 ∷ 101
@@ -38,7 +33,7 @@ packet2 =
 
 abbrev pub packet3 : List ℕ
 packet3 =
-    ipv4 1 2
+    carrying 1 2
     (4 ∷ 0 ∷ 0 ∷ 80
     ∷ 0 ∷ 0 ∷ 0 ∷ 101
     ∷ 0 ∷ 0 ∷ 1 ∷ 246

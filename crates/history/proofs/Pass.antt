@@ -86,21 +86,21 @@ module _ (h : List LineSegment) (p : LineSegment) (no-reset : rst (p .flags) ≡
 
 -- What is written, from what becomes of F and of T
 
-pub written-acked :
+pub endsAfter-acked :
     (x y : ℕ → End) (i : ℕ) (g : Segment) → i < 2 → ack (g .flags) ≡ 1 → sent (x i) g ≡ y i → granted (x (1 - i)) g ≡ y (1 - i) →
     endsAfter (x 0 ∷ x 1 ∷ []) i g ≡ y 0 ∷ y 1 ∷ []
 unfolding endsAfter
-written-acked x y zero g side acks f t = if-= _ _ acks ∙ λ k. f k ∷ t k ∷ []
-written-acked x y (suc zero) g side acks f t = if-= _ _ acks ∙ λ k. t k ∷ f k ∷ []
-written-acked x y (suc (suc i)) g side acks f t = absurd (omega arith)
+endsAfter-acked x y zero g side acks f t = if-= _ _ acks ∙ λ k. f k ∷ t k ∷ []
+endsAfter-acked x y (suc zero) g side acks f t = if-= _ _ acks ∙ λ k. t k ∷ f k ∷ []
+endsAfter-acked x y (suc (suc i)) g side acks f t = absurd (omega arith)
 
-pub written-unacked :
+pub endsAfter-unacked :
     (x y : ℕ → End) (i : ℕ) (g : Segment) → i < 2 → (ack (g .flags) ≡ 1 → ⊥) → sent (x i) g ≡ y i → x (1 - i) ≡ y (1 - i) →
     endsAfter (x 0 ∷ x 1 ∷ []) i g ≡ y 0 ∷ y 1 ∷ []
 unfolding endsAfter
-written-unacked x y zero g side silent f t = if-=-not _ _ silent ∙ λ k. f k ∷ t k ∷ []
-written-unacked x y (suc zero) g side silent f t = if-=-not _ _ silent ∙ λ k. t k ∷ f k ∷ []
-written-unacked x y (suc (suc i)) g side silent f t = absurd (omega arith)
+endsAfter-unacked x y zero g side silent f t = if-=-not _ _ silent ∙ λ k. f k ∷ t k ∷ []
+endsAfter-unacked x y (suc zero) g side silent f t = if-=-not _ _ silent ∙ λ k. t k ∷ f k ∷ []
+endsAfter-unacked x y (suc (suc i)) g side silent f t = absurd (omega arith)
 
 spans-of-both : (x : ℕ → Numbers) (i : ℕ) → i < 2 → Spans (x i) → Spans (x (1 - i)) → Spans (x 0) × Spans (x 1)
 spans-of-both x zero side f t = (f, t)
@@ -185,10 +185,10 @@ module _ (c : Connection) (h : List LineSegment) (holds : Holds c h) (p : LineSe
             endsAfter (onRing (numbersOf 0 h) ∷ onRing (numbersOf 1 h) ∷ []) (p .from) (onWire p) ≡ onRing (numbersOf 0 (p ∷ h)) ∷ onRing (numbersOf 1 (p ∷ h)) ∷ []
         by-ack true e =
             let acks = eqb-true (ack (p .flags)) 1 e in
-            written-acked (λ k. onRing (numbersOf k h)) (λ k. onRing (numbersOf k (p ∷ h))) (p .from) (onWire p) side acks sender-after (acked-after acks)
+            endsAfter-acked (λ k. onRing (numbersOf k h)) (λ k. onRing (numbersOf k (p ∷ h))) (p .from) (onWire p) side acks sender-after (acked-after acks)
         by-ack false e =
             let silent = eqb-false (ack (p .flags)) 1 e in
-            written-unacked (λ k. onRing (numbersOf k h)) (λ k. onRing (numbersOf k (p ∷ h))) (p .from) (onWire p) side silent sender-after (unacked-after silent)
+            endsAfter-unacked (λ k. onRing (numbersOf k h)) (λ k. onRing (numbersOf k (p ∷ h))) (p .from) (onWire p) side silent sender-after (unacked-after silent)
 
     fins-after : finsAfter (c .fins) (p .from) (p .flags) ≡ finsOf (p ∷ h)
     unfolding finsOf

@@ -24,7 +24,7 @@ pub record Presentable (o : Presented) : Type 0 where
   pub sender-known : o .sender < 2
   pub placeable : Placeable (o .segment)
 
--- each of a list is
+-- each of a list is presentable
 unfoldable pub AllPresentable : List Presented → Type 0
 AllPresentable [] = Unit {0}
 AllPresentable (o ∷ l) = Presentable o × AllPresentable l

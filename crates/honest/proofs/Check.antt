@@ -16,7 +16,7 @@ use Rattle.segment.specs.Flags.{syn, rst, ack, SYN, SYN+ACK}
 use Rattle.segment.specs.declared.Segment.{Segment}
 use Rattle.connection.specs.Ends.{otherEnd}
 use Rattle.connection.specs.Ranges.{widest}
-use Rattle.rows.specs.Rows.{View, Ask, search, clockUsed}
+use Rattle.rows.specs.Rows.{View, matchOf}
 use Rattle.rows.specs.Connections.{connections}
 use Rattle.rows.specs.declared.Found.{Found}
 use Rattle.rows.specs.declared.Found.the-variants.{At, Nothing}
@@ -128,9 +128,6 @@ pub one-more :
 one-more i k n p this before j g (inl (same, is)) of-i = rw same (this (ap (λ (x : LineSegment). x .from) (sym is) ∙ of-i))
 one-more i k n p this before j g (inr was) of-i = before j g was of-i
 
-abbrev foundBy : View connections → Ask → Found
-foundBy v a = search connections v (clockUsed connections v a) (a .side) (a .key)
-
 module _ (t₀ : View connections) (P : Pair) where
   abbrev M : Machine
   M = viewMachine (λ p. p)
@@ -197,7 +194,7 @@ module _ (t₀ : View connections) (P : Pair) where
 
   -- sent before, and brought by a call with the clock that it is given
   abbrev Brings : (k : ℕ) (p : LineSegment) (q : ViewCall) (L : Seen) → Type 0
-  Brings k p q L = Sent k p L × (asks (q .0) ≡ asks (bringing M P p (q .0 .clock)))
+  Brings k p q L = Sent k p L × (asks (q .0) ≡ asks (bringing P p (q .0 .clock)))
 
   abbrev brings : (k : ℕ) (p : LineSegment) (q : ViewCall) (L : Seen) → Test (Brings k p q L)
   brings k p q L =
@@ -223,7 +220,7 @@ module _ (t₀ : View connections) (P : Pair) where
       (both (brings k p q L)
       (both (equal (p .from) 0)
       (both (equal (p .flags) SYN)
-      (both (nothing (foundBy (told M t₀ L .state) (bringing M P p (q .0 .clock)))) (isTrue (passes M (told M t₀ L) q)))))))
+      (both (nothing (matchOf connections (told M t₀ L .state) (bringing P p (q .0 .clock)))) (isTrue (passes M (told M t₀ L) q)))))))
 
   abbrev isLive : (q : ViewCall) (L : Seen) → Test (Live M (told M t₀ L) q)
   isLive q L = so (λ under. omega (arith, under)) (below (max (q .0 .clock) (told M t₀ L .passClock)) (told M t₀ L .until))

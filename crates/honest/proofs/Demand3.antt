@@ -425,7 +425,7 @@ module _ (M : Machine) (Sound : M .State → Type 0) (keeps : KeepsTo M Sound) (
           let x =
           passing P (told M s₀ L .history) (λ j g. Arrived j g L) L (inv .protocol) c (al .holds) k p (w .0) (w .1)
           (λ j g was mine. omega (arith, r .in-order j g was mine)) (al .heard) in
-          let a : Ask = bringing M P p (r .arrives .clock) in
+          let a : Ask = bringing P p (r .arrives .clock) in
           let asked-p : AskOf P (p .from) a = record { end = f .end-known; side = refl; key = refl } in (
             answer-is-0 (told M s₀ L) (inv .table) q p _ (r .arrives .brings) refl asked-p (f .no-reset) c al (r .live) (x .verdict),
             place-is-ours (told M s₀ L) (inv .table) q p _ (r .arrives .brings) refl asked-p (f .no-reset) c al (r .live) (x .verdict),

@@ -13,24 +13,14 @@ use Rattle.connection.specs.Ranges.{sequenceMet, ackMet}
 use Rattle.connection.specs.Stages.{lifeOf, withFin, finsAfter, openStage, stageAfter}
 use Rattle.connection.specs.Decision.{sameSyn, reply, verdictUnanswered, verdictByRanges, verdictOn, opened, repeated, answered, carried, passed}
 use Rattle.rows.specs.Places.{firstFrom}
-use Rattle.rows.specs.Rows.{View, fromOpener, fromAnswerer, liveMatch, vacant, senderOf, entryWith, onEntry, openingEntry, unmatched, onSegment}
-use Rattle.rows.specs.Connections.{connections}
+use Rattle.rows.specs.Rows.{fromOpener, fromAnswerer, liveMatch, vacant, senderOf, entryWith, onEntry, openingEntry, unmatched, onSegment}
 use Rattle.history.specs.History.{finsOf, stageOf}
-use Rattle.honest.specs.Machine.{Machine}
 use Rattle.honest.specs.Rules.{opening, arrival, other, send, call, delivery, Pair, sentBy, receivedBy, highest, some, hasAnswer}
 use Rattle.honest.specs.Honest.{passes, afterCall, told, said, Fair, Legal, NeverBlocked}
-use Rattle.honest.specs.Instance.{viewMachine}
-use Rattle.honest.specs.Demand2.{fresh}
 use Rattle.honest.specs.Witness.{Seen}
-use Rattle.honest.specs.Needed.{Need, FairAfter, BlockedArrival, Shown, AllShown, ofSendings, ofCalls, EachNeeded}
+use Rattle.honest.specs.Needed.{Need, one, M, FairAfter, BlockedArrival, Shown, AllShown, ofSendings, ofCalls, EachNeeded}
 use Rattle.honest.proofs.Check.{Test, both, yes, no, so, equal, atMost, fair, checked}
 use Rattle.honest.proofs.Instance.{demand3-view, fresh-sound}
-
-abbrev one : View connections
-one = fresh connections 1
-
-abbrev M : Machine
-M = viewMachine (λ p. p)
 
 -- By computation
 
@@ -49,23 +39,24 @@ blocked (call q (arrival k p) ∷ L) n = both (equal (said M one L q .answer) n)
 blocked (call q other ∷ L) n = no
 blocked (delivery k p ∷ L) n = no
 
--- all but that the event is not fair
-pub record Computed (n : Need) : Type 0 where
-  pub known : n .pair .side ≤ 1
-  pub legal-before : Legal M one (n .pair) (reverse (n .before))
-  pub fair-instead : Fair M one (n .pair) (n .instead) (reverse (n .before))
-  pub fair-later : FairAfter (n .pair) (reverse (n .later)) (n .broken ∷ reverse (n .before))
-  pub blocked : BlockedArrival (reverse (n .later) ++ n .broken ∷ reverse (n .before)) (n .answer)
+-- a side that packets have, and all that is shown but that the event is not fair
+abbrev Computed : Need → Type 0
+Computed n =
+    let L = reverse (n .before) in
+    let N = reverse (n .later) in
+    (n .pair .side ≤ 1)
+    × (Legal M one (n .pair) L
+    × (Fair M one (n .pair) (n .instead) L
+    × (FairAfter (n .pair) N (n .broken ∷ L) × BlockedArrival (N ++ n .broken ∷ L) (n .answer))))
 
 abbrev computes : (n : Need) → Test (Computed n)
 computes n =
     let L = reverse (n .before) in
     let N = reverse (n .later) in
-    so (λ h. record { known = h .0; legal-before = h .1 .0; fair-instead = h .1 .1 .0; fair-later = h .1 .1 .1 .0; blocked = h .1 .1 .1 .1 })
-    (both (atMost (n .pair .side) 1)
+    both (atMost (n .pair .side) 1)
     (both (checked one (n .pair) L)
     (both (fair one (n .pair) (n .instead) L)
-    (both (fairAfter (n .pair) N (n .broken ∷ L)) (blocked (N ++ n .broken ∷ L) (n .answer))))))
+    (both (fairAfter (n .pair) N (n .broken ∷ L)) (blocked (N ++ n .broken ∷ L) (n .answer)))))
 
 -- By demand 3
 
@@ -83,15 +74,15 @@ not-blocked (call q other ∷ L) n passes here = here
 not-blocked (delivery k p ∷ L) n passes here = here
 
 shown : (n : Need) → Computed n → Shown n
-shown n c = record {
-  legal-before = c .legal-before;
+shown n (known, (before, (instead, (later, here)))) = record {
+  legal-before = before;
   not-fair = λ is-fair.
       let L = reverse (n .later) ++ n .broken ∷ reverse (n .before) in
-      let legal = legal-after (n .pair) (reverse (n .later)) (n .broken ∷ reverse (n .before)) (c .fair-later) (is-fair, c .legal-before) in
-      not-blocked L (n .answer) (demand3-view (λ p. p) one (fresh-sound (λ p. p) 1) (n .pair) (c .known) L legal) (c .blocked);
-  fair-instead = c .fair-instead;
-  fair-later = c .fair-later;
-  blocked = c .blocked;
+      let legal = legal-after (n .pair) (reverse (n .later)) (n .broken ∷ reverse (n .before)) later (is-fair, before) in
+      not-blocked L (n .answer) (demand3-view (λ p. p) one (fresh-sound (λ p. p) 1) (n .pair) known L legal) here;
+  fair-instead = instead;
+  fair-later = later;
+  blocked = here;
 }
 
 abbrev allShown : (l : List Need) → Test (AllShown l)

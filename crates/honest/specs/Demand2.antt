@@ -4,8 +4,7 @@ use Prim.Native.Nat.{ℕ, _≤_}
 use mathlib.Core.Path.{_≡_}
 use mathlib.Core.Logic.{_⊎_}
 use mathlib.Core.List.{List, [], _∷_}
-use Rattle.rows.specs.Rows as rows
-use Rattle.rows.specs.Rows.{Bodies, Ask, View, Outcome, freeEntry, clockUsed, senderOf, filter, answerOf, placeBy, after, nowhere}
+use Rattle.rows.specs.Rows.{Bodies, Ask, View, Outcome, freeEntry, matchOf, senderOf, filter, answerOf, placeBy, after, nowhere}
 use Rattle.rows.specs.Connections.{connections}
 use Rattle.rows.specs.declared.Found.the-variants.{At}
 use Rattle.history.specs.History.{stageOf, Placeable}
@@ -34,7 +33,7 @@ AllPlaceable (a ∷ l) = Placeable (a .segment) × AllPlaceable l
 
 -- a call has found the history at place p, from stage 2 on
 pub record FoundFromStage2 (v : View histories) (a : Ask) (p : ℕ) : Type 0 where
-  pub match : rows.search histories v (clockUsed histories v a) (a .side) (a .key) ≡ At p
+  pub match : matchOf histories v a ≡ At p
   pub stage : 2 ≤ stageOf (v .entry p .connection .segments)
 
 -- an answer speaks of all places on the line that have the segment's 32 bits

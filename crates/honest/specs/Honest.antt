@@ -9,21 +9,23 @@ use Rattle.choice.specs.Choice.{if_then_else_, _=ᵇ_}
 use Rattle.segment.specs.Flags.{SYN}
 use Rattle.connection.specs.Ends.{opener}
 use Rattle.connection.specs.Stages.{lifeOf}
-use Rattle.rows.specs.Rows.{Ask, FindsNone, nowhere}
+use Rattle.rows.specs.Rows.{Ask, matchOf, nowhere}
 use Rattle.rows.specs.Connections.{connections}
+use Rattle.rows.specs.declared.Found.the-variants.{Nothing}
 use Rattle.history.specs.History.{LineSegment, onWire, stageOf}
 use Rattle.honest.specs.Machine.{Said, asks, apart, Machine, clockIn}
 use Rattle.honest.specs.Rules.{Label, opening, arrival, other, IsArrivalOf, Event, send, call, delivery, Pair, sideOf, keyOf, Sent, Arrived, Honest}
+
+-- "An arrival is a call that brings an end's segment of this connection, its numbers modulo 2^32, with that end's side .. and a clock
+-- under 2^48." (A larger clock is refused, and asks nothing)
+abbrev pub bringing : Pair → LineSegment → (clock : ℕ) → Ask
+bringing P p clock = record { side = sideOf P (p .from); clock = clock; key = keyOf P (p .from); segment = onWire p }
 
 module _ (M : Machine) where
   abbrev pub Events : Type 0
   Events = List (Event (M .Call))
 
-  -- "An arrival is a call that brings an end's segment of this connection, its numbers modulo 2^32, with that end's side .. and a clock
-  -- under 2^48." (A larger clock is refused, and asks nothing)
-  abbrev pub bringing : Pair → LineSegment → (clock : ℕ) → Ask
-  bringing P p clock = record { side = sideOf P (p .from); clock = clock; key = keyOf P (p .from); segment = onWire p }
-
+  -- such a call, of its end's k-th sending
   pub record Arrives (P : Pair) (k : ℕ) (p : LineSegment) (q : M .Call) (L : Events) : Type 0 where
     -- "each later than its sending"
     pub sent : Sent k p L
@@ -105,7 +107,7 @@ module _ (M : Machine) where
       pub arrives : Arrives P k p q L
       pub by-opener : p .from ≡ opener
       pub is-syn : p .flags ≡ SYN
-      pub finds-none : FindsNone connections (M .view (told s₀ L .state)) (bringing P p (arrives .clock))
+      pub finds-none : matchOf connections (M .view (told s₀ L .state)) (bringing P p (arrives .clock)) ≡ Nothing
       pub answered-0 : passes (told s₀ L) q ≡ true
 
   -- "a call that is no arrival may give anything, but isn't passed on the opening's entry": that it is, by its place

@@ -27,10 +27,10 @@ pub record Need : Type 0 where
   pub later : List Seen
   pub answer : ℕ
 
-abbrev one : View connections
+abbrev pub one : View connections
 one = fresh connections 1
 
-abbrev M : Machine
+abbrev pub M : Machine
 M = viewMachine (λ p. p)
 
 -- each event of the first list is fair after those before it, the second list among them

@@ -15,6 +15,9 @@ use Rattle.rows.specs.Examples.{RowsGive}
 pub rows-give : RowsGive
 unfolding if_then_else_ wrap ringPlus ringMinus nearest further sent granted endsAfter sequenceMet ackMet lifeOf withFin finsAfter openStage stageAfter sameSyn reply verdictUnanswered verdictByRanges verdictOn opened repeated answered carried passed firstFrom fromOpener fromAnswerer liveMatch vacant senderOf entryWith onEntry openingEntry unmatched onSegment sameFlow
 rows-give = record {
+  match-first = refl;
+  match-expired = refl;
+  match-header-clock = refl;
   row-11-flags = refl;
   row-11-side = refl;
   row-11-expired = refl;

@@ -10,8 +10,9 @@ use Rattle.connection.specs.Ends.{count, seqNum}
 use Rattle.connection.specs.Decision.{free}
 use Rattle.connection.specs.declared.Connection.{Connection}
 use Rattle.connection.specs.declared.End.{End}
-use Rattle.rows.specs.Rows.{Ask, Entry, View, filter, answerOf, after, placeBy}
+use Rattle.rows.specs.Rows.{Ask, Entry, View, matchOf, filter, answerOf, after, placeBy}
 use Rattle.rows.specs.Connections.{connections}
+use Rattle.rows.specs.declared.Found.the-variants.{At, Nothing}
 
 -- Tables
 
@@ -51,6 +52,10 @@ table e f g = record { clock = 90; places = 3; entry = three e f g }
 -- all three match the same segments; at clock 100 the first has expired
 abbrev busy : View connections
 busy = table (entry outward (established 0 100)) (entry outward (established 0 101)) (entry outward (established 0 101))
+
+-- expired by the header's clock
+abbrev stale : View connections
+stale = table (entry outward (established 0 85)) (entry outward (established 0 85)) (entry outward (established 0 90))
 
 -- opened on side 1
 abbrev turned : View connections
@@ -92,6 +97,10 @@ left v a = after connections v (filter connections v a)
 -- The claims
 
 pub record RowsGive : Type 0 where
+  -- the first live match from place 0 up, by the clock used
+  pub match-first : matchOf connections busy (tenOctets 100) ≡ At 1
+  pub match-expired : matchOf connections busy (tenOctets 101) ≡ Nothing
+  pub match-header-clock : matchOf connections stale (tenOctets 80) ≡ Nothing
   -- 11, also where the table is full: no live connection matches, and it is not SYN without ACK from side 0
   pub row-11-flags : answer full (call 0 100 stranger ACK 7 1 0 1000) ≡ 11
   pub row-11-side : answer full (call 1 100 stranger SYN 7 1 0 1000) ≡ 11

@@ -95,9 +95,9 @@ module _ (B : Bodies) where
   abbrev pub search : View → ℕ → ℕ → Flow → Found
   search v now side k = firstFrom (λ p. liveMatch now side k (v .entry p)) 0 (v .places)
 
-  -- a call finds no live match
-  abbrev pub FindsNone : View → Ask → Type 0
-  FindsNone v a = search v (clockUsed v a) (a .side) (a .key) ≡ Nothing
+  -- the live match that a call finds, if any
+  abbrev pub matchOf : View → Ask → Found
+  matchOf v a = search v (clockUsed v a) (a .side) (a .key)
 
   -- free or expired, as a free entry's deadline is 0
   unfoldable pub vacant : ℕ → Entry → Bool
