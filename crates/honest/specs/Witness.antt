@@ -11,16 +11,17 @@ use lib.Dec.{T}
 use lib.ListN.{getD}
 use borrow.Author.Tests.{leb-true, eqb-true, eq-eqb}
 use Rattle.choice.specs.Choice.{_=ᵇ_, _≤ᵇ_}
+use Rattle.choice.proofs.Choice.{if-either}
 use Rattle.choice.proofs.Tests.{&&-true, not-||-true}
 use Rattle.serial.proofs.Ring.{wrap-small}
-use Rattle.address.specs.Flows.{dotted, endpoint, between, reversed}
+use Rattle.address.specs.Flows.{dotted, endpoint, between}
 use Rattle.address.specs.declared.Flow.{Flow}
 use Rattle.segment.specs.Flags.{syn, SYN, SYN+ACK, ACK, FIN+ACK}
 use Rattle.connection.specs.Ends.{opener, answerer}
 use Rattle.rows.specs.Rows.{nowhere}
 use Rattle.rows.specs.Examples.{outward}
 use Rattle.history.specs.History.{LineSegment, onWire, Placeable}
-use Rattle.honest.specs.Rules.{opening, arrival, other, Event, send, call, delivery, Pair}
+use Rattle.honest.specs.Rules.{opening, arrival, other, Event, send, call, delivery, Pair, sideOf, keyOf}
 use Rattle.honest.specs.Instance.{ViewCall}
 use Rattle.honest.specs.Carries.{Summary}
 
@@ -131,24 +132,14 @@ a k = getD answererSends k (answerer's ACK 1 0 1 0 tt)
 
 -- Calls
 
--- side, addresses and ports of end i
-abbrev pub sideFrom : ℕ → ℕ
-sideFrom zero = 0
-sideFrom (suc i) = 1
-
-pub side-known : (i : ℕ) → sideFrom i ≤ 1
-side-known zero = omega arith
-side-known (suc i) = omega arith
-
-abbrev pub keyFrom : ℕ → Flow
-keyFrom zero = outward
-keyFrom (suc i) = reversed outward
+pub side-known : (i : ℕ) → sideOf pair i ≤ 1
+side-known i = if-either (λ s. s ≤ 1) (i =ᵇ opener) _ _ (omega arith) (omega arith)
 
 abbrev pub calls : (side : ℕ) → side ≤ 1 → (clock : ℕ) → Flow → Piece → ViewCall
 calls side known clock key p = (record { side = side; clock = clock; key = key; segment = onWire (p .line) }, known, placeable (p .line) (p .formed))
 
 abbrev pub brings : (clock : ℕ) → Piece → ViewCall
-brings clock p = calls (sideFrom (p .line .from)) (side-known (p .line .from)) clock (keyFrom (p .line .from)) p
+brings clock p = calls (sideOf pair (p .line .from)) (side-known (p .line .from)) clock (keyOf pair (p .line .from)) p
 
 -- Events: of o or a, the k-th sending
 
