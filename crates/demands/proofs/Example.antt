@@ -8,7 +8,7 @@ use Rattle.octets.specs.Overwrite.{overwrite}
 use Rattle.octets.specs.BigEndian.{bigEndian, octetsOf}
 use Rattle.address.specs.Flows.{sameFlow}
 use Rattle.packet.specs.Read.{rows6to8, ipv4Header, row10, rows9to10}
-use Rattle.packet.specs.Sum.{onesPlus, onesSum}
+use Rattle.checksum.specs.Sum.{onesPlus, onesSum}
 use Rattle.connection.specs.Decision.{sameSyn, reply, verdictUnanswered, verdictByRanges, verdictOn, opened, repeated, answered, carried, passed}
 use Rattle.connection.specs.Ends.{sent, granted, endsAfter}
 use Rattle.connection.specs.Sound.{soundFins, soundEnd, soundUnanswered, soundConnection}

@@ -9,7 +9,7 @@ use Rattle.octets.specs.Digits.{number, digits}
 use Rattle.octets.specs.BigEndian.{bigEndian, octetsOf}
 use Rattle.octets.specs.Overwrite.{overwrite}
 use Rattle.address.specs.declared.Version.the-variants.{V4}
-use Rattle.packet.specs.Sum.{onesPlus, onesSum}
+use Rattle.checksum.specs.Sum.{onesPlus, onesSum}
 use Rattle.packet.specs.Read.{readIPv4, rows6to8, ipv4Header, row10, rows9to10}
 use Rattle.rows.specs.Connections.{connections}
 use Rattle.honest.specs.Machine.{refused, Machine}

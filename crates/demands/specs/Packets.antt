@@ -5,7 +5,7 @@ use lib.ListN.{replicate}
 use Rattle.octets.specs.BigEndian.{octetsOf}
 use Rattle.octets.proofs.Octets.{Bytes, bytes-[], bytes-++, bytes-octetsOf, bytes-replicate}
 use Rattle.segment.specs.Flags.{fin, syn}
-use Rattle.packet.specs.Sum.{onesSum}
+use Rattle.checksum.specs.Sum.{onesSum}
 use Rattle.rows.specs.Rows.{Ask}
 use Rattle.demands.specs.Bytes.{BytesCall}
 

@@ -5,7 +5,7 @@ use Rattle.octets.specs.Digits.{tabulate, number}
 use Rattle.octets.specs.BigEndian.{bigEndian}
 use Rattle.address.specs.Flows.{sameFlow}
 use Rattle.packet.specs.Read.{rows6to8, ipv4Header, row10, rows9to10}
-use Rattle.packet.specs.Sum.{onesPlus, onesSum}
+use Rattle.checksum.specs.Sum.{onesPlus, onesSum}
 use Rattle.connection.specs.Sound.{soundFins, soundEnd, soundUnanswered, soundConnection}
 use Rattle.rows.specs.Places.{firstFrom}
 use Rattle.rows.specs.Rows.{fromOpener, fromAnswerer, liveMatch, unmatched, onSegment}

@@ -7,7 +7,7 @@ ghost use Rattle.octets.specs.LittleEndian.{littleEndian, FourOctets, li
 ghost use Rattle.octets.specs.Overwrite.{overwrite};
 
 // A byte as a wider number; a call, so that a read asks for its index alone.
-fn wide(x: u8) -> u32
+pub fn wide(x: u8) -> u32
     ensures { λ r. ⌜ (r ≡ x) × (r < 256) ⌝ }
 {
     x as u32

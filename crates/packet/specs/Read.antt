@@ -12,7 +12,7 @@ use Rattle.address.specs.declared.Version.the-variants.{V4}
 use Rattle.segment.specs.Flags.{fin, syn, rst, ack, control}
 use Rattle.segment.specs.declared.Segment.{Segment}
 use Rattle.packet.specs.Header.{version, headerLength, totalLength, moreFragments, fragmentOffset, protocol, sequenceNumber, acknowledgmentNumber, dataOffset, controlBits, window}
-use Rattle.packet.specs.Sum.{onesSum}
+use Rattle.checksum.specs.Sum.{onesSum}
 use Rattle.packet.specs.declared.Cause.{Cause}
 use Rattle.packet.specs.declared.Cause.the-variants.{Short, OtherVersion, HeaderLength, TotalBelowHeader, TotalAboveGiven, HeaderSum, Fragment, Protocol, TcpShort, OffsetBelowFive, OffsetPastTotal, SynFinRst, NoSynAckRst, SynPayload}
 use Rattle.packet.specs.declared.FlagCheck.{FlagCheck}

@@ -6,12 +6,12 @@ ghost use lib.ListN.{length};
 ghost use Rattle.address.specs.Address.{addressSize};
 ghost use Rattle.segment.specs.Flags.{control};
 ghost use Rattle.packet.specs.Header.{dataOffset};
-ghost use Rattle.packet.specs.Sum.{onesSum, wordSum};
 ghost use Rattle.packet.specs.Read.{rows6to8, ipv4Header, ipv4Addresses, segmentOf, row10, rows9to10, readIPv4, Inside};
 ghost use Rattle.packet.specs.Read.{causeNumber, refusalNumber};
 use address::Flow;
 use address::Version;
 use address::read_flow;
+use checksum::ones_sum;
 use octets::read16;
 use octets::read32;
 use segment::Segment;
@@ -89,30 +89,6 @@ impl Cause {
             Cause::SynPayload => 10,
         }
     }
-}
-
-// The sum of a header's 16-bit words; a header has at most 30.
-fn word_sum(header: &[u8]) -> u32
-    requires { ⌜ (length (now header) % 2 ≡ 0) × (length (now header) ≤ 60) ⌝ }
-    ensures { λ r. ⌜ (r ≡ wordSum (now (header .entry))) × (r ≤ 1966080) ⌝ }
-{
-    let mut sum: u32 = 0;
-    let mut i = 0;
-    while i < header.len() {
-        sum += read16(header, i) as u32;
-        i += 2;
-    }
-    sum
-}
-
-// The ones' complement sum of a header's 16-bit words.
-fn header_sum(header: &[u8]) -> u32
-    requires { ⌜ (length (now header) % 2 ≡ 0) × (length (now header) ≤ 60) ⌝ }
-    ensures { λ r. ⌜ r ≡ onesSum (now (header .entry)) ⌝ }
-{
-    let sum = word_sum(header);
-    let once = sum % 65536 + sum / 65536;
-    once % 65536 + once / 65536
 }
 
 // Row 10 for a segment with n payload octets.
@@ -194,7 +170,7 @@ fn check_ipv4_header(s: &[u8], h: usize, t: usize) -> IpRead
     requires { ⌜ (20 ≤ h) × (h ≤ 60) × (h % 4 ≡ 0) × (h ≤ t) × (t ≤ length (now s)) × (t < 2 ^ 16) ⌝ }
     ensures { λ r. ⌜ (r ≡ rows6to8 (now (s .entry)) h t) × Inside Version.V4 ipv4Addresses (now (s .entry)) r ⌝ }
 {
-    if header_sum(&s[0..h]) != 65535 {
+    if ones_sum(&s[0..h]) != 65535 {
         return IpRead::BadHeader(Cause::HeaderSum);
     }
     if read16(s, 6) % 16384 != 0 {

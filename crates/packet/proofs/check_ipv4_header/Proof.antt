@@ -5,7 +5,7 @@ use native.Mathlib.Nat.{sub-zero}
 use native.Mathlib.Omega.{arith}
 use lib.ListN.{take}
 use Rattle.octets.specs.BigEndian.{bigEndian}
-use Rattle.packet.specs.Sum.{onesSum}
+use Rattle.checksum.specs.Sum.{onesSum}
 use Rattle.packet.proofs.Read.{refused-row6, refused-row7, refused-row8, past-row8}
 use borrow.Author.Needs.{needs}
 use Rattle.packet.proofs.check_ipv4_header.Statement.{statement}
@@ -13,11 +13,11 @@ use Rattle.packet.proofs.check_ipv4_header.Tie as tie
 
 -- the part that was summed is the header
 summed :
-    (c : tie.After-header-sum) →
-    let a = c .before .before .before .args in c .header-sum .result ≡ onesSum (take (a .h) (a .s .now))
+    (c : tie.After-ones-sum) →
+    let a = c .before .before .before .args in c .ones-sum .result ≡ onesSum (take (a .h) (a .s .now))
 summed c =
     let a = c .before .before .before .args in
-    c .header-sum .ensures ∙ ap (λ (k : ℕ). onesSum (take k (a .s .now))) (sub-zero (a .h))
+    c .ones-sum .ensures ∙ ap (λ (k : ℕ). onesSum (take k (a .s .now))) (sub-zero (a .h))
 
 right : (e : tie.Else1) → let a = e .before .before .before .before .args in onesSum (take (a .h) (a .s .now)) ≡ 65535
 right e = sym (summed (e .before)) ∙ e .if1 .left
@@ -31,17 +31,17 @@ fragment c = ap (λ (w : ℕ). w % 16384) (c .read16 .ensures)
 whole : (e : tie.Else2) → bigEndian 2 (e .before .before .before .before .before .before .args .s .now) 6 % 16384 ≡ 0
 whole e = sym (fragment (e .before)) ∙ e .if2 .left
 
-sub-header-sum : tie.Need-sub-header-sum
-sub-header-sum c = search needs
+sub-ones-sum : tie.Need-sub-ones-sum
+sub-ones-sum c = search needs
 
-part-header-sum-start : tie.Need-part-header-sum-start
-part-header-sum-start c = search needs
+part-ones-sum-start : tie.Need-part-ones-sum-start
+part-ones-sum-start c = search needs
 
-part-header-sum-end : tie.Need-part-header-sum-end
-part-header-sum-end c = search needs
+part-ones-sum-end : tie.Need-part-ones-sum-end
+part-ones-sum-end c = search needs
 
-header-sum-requires : tie.Need-header-sum-requires
-header-sum-requires c κs = search needs
+ones-sum-requires : tie.Need-ones-sum-requires
+ones-sum-requires c κs = search needs
 
 returns : tie.Need-returns
 returns c =
@@ -78,10 +78,10 @@ pub check-ipv4-header-spec : {M : Type 1} → statement M
 check-ipv4-header-spec =
     tie.close
     (tie.spec
-    sub-header-sum
-    part-header-sum-start
-    part-header-sum-end
-    header-sum-requires
+    sub-ones-sum
+    part-ones-sum-start
+    part-ones-sum-end
+    ones-sum-requires
     returns
     read16-requires
     returns-2

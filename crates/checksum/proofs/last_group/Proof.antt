@@ -1,0 +1,134 @@
+-- What the last group lacks is zero: a list has nothing past its end.
+use Prim.Native.Nat.{ℕ, _+_, _≤_}
+use mathlib.Core.Path.{_≡_}
+use mathlib.Core.List.{List}
+use native.Mathlib.Omega.{arith}
+use lib.ListN.{length, getD, List·getD-eq-default}
+use borrow.Author.Needs.{needs}
+use Rattle.checksum.proofs.last_group.Statement.{statement}
+use Rattle.checksum.proofs.last_group.Tie as tie
+
+none : (l : List ℕ) (i : ℕ) → length l ≤ i → getD l i 0 ≡ 0
+none l i h = List·getD-eq-default l 0 h
+
+sub-left : tie.Need-sub-left
+sub-left c = search needs
+
+shared-slice-read-wide : tie.Need-shared-slice-read-wide
+shared-slice-read-wide c = search needs
+
+wide-requires : tie.Need-wide-requires
+wide-requires c κs = search needs
+
+shared-slice-read-wide-2 : tie.Need-shared-slice-read-wide-2
+shared-slice-read-wide-2 c = search needs
+
+wide-requires-2 : tie.Need-wide-requires-2
+wide-requires-2 c κs = search needs
+
+add-wide : tie.Need-add-wide
+add-wide c = search needs
+
+shared-slice-read-wide-3 : tie.Need-shared-slice-read-wide-3
+shared-slice-read-wide-3 c = search needs
+
+wide-requires-3 : tie.Need-wide-requires-3
+wide-requires-3 c κs = search needs
+
+mul-result : tie.Need-mul-result
+mul-result c = search needs
+
+add-result : tie.Need-add-result
+add-result c = search needs
+
+shared-slice-read-wide-4 : tie.Need-shared-slice-read-wide-4
+shared-slice-read-wide-4 c = search needs
+
+wide-requires-4 : tie.Need-wide-requires-4
+wide-requires-4 c κs = search needs
+
+add-wide-2 : tie.Need-add-wide-2
+add-wide-2 c = search needs
+
+shared-slice-read-wide-5 : tie.Need-shared-slice-read-wide-5
+shared-slice-read-wide-5 c = search needs
+
+wide-requires-5 : tie.Need-wide-requires-5
+wide-requires-5 c κs = search needs
+
+mul-result-2 : tie.Need-mul-result-2
+mul-result-2 c = search needs
+
+add-result-2 : tie.Need-add-result-2
+add-result-2 c = search needs
+
+add-wide-3 : tie.Need-add-wide-3
+add-wide-3 c = search needs
+
+shared-slice-read-wide-6 : tie.Need-shared-slice-read-wide-6
+shared-slice-read-wide-6 c = search needs
+
+wide-requires-6 : tie.Need-wide-requires-6
+wide-requires-6 c κs = search needs
+
+mul-result-3 : tie.Need-mul-result-3
+mul-result-3 c = search needs
+
+add-result-3 : tie.Need-add-result-3
+add-result-3 c = search needs
+
+returns : tie.Need-returns
+returns c =
+    let s = c .before .before .args .s .now in
+    let at = c .before .before .args .at in
+    (omega (arith, none s at (omega arith), none s (at + 1) (omega arith), none s (at + 2) (omega arith), none s (at + 3) (omega arith)), omega arith)
+
+returns-2 : tie.Need-returns-2
+returns-2 c =
+    let k = c .before .before .before .before in
+    let s = k .args .s .now in
+    let at = k .args .at in
+    (omega (arith, none s (at + 1) (omega arith), none s (at + 2) (omega arith), none s (at + 3) (omega arith)), omega arith)
+
+returns-3 : tie.Need-returns-3
+returns-3 c =
+    let k = c .before .before .before .before .before .before in
+    let s = k .args .s .now in
+    let at = k .args .at in
+    (omega (arith, none s (at + 2) (omega arith), none s (at + 3) (omega arith)), omega arith)
+
+returns-4 : tie.Need-returns-4
+returns-4 c =
+    let k = c .before .before .before .before .before .before .before .before in
+    (omega (arith, none (k .args .s .now) (k .args .at + 3) (omega arith)), omega arith)
+
+pub last-group-spec : {M : Type 1} → statement M
+last-group-spec =
+    tie.close
+    (tie.spec
+    sub-left
+    shared-slice-read-wide
+    wide-requires
+    shared-slice-read-wide-2
+    wide-requires-2
+    add-wide
+    shared-slice-read-wide-3
+    wide-requires-3
+    mul-result
+    add-result
+    shared-slice-read-wide-4
+    wide-requires-4
+    add-wide-2
+    shared-slice-read-wide-5
+    wide-requires-5
+    mul-result-2
+    add-result-2
+    add-wide-3
+    shared-slice-read-wide-6
+    wide-requires-6
+    mul-result-3
+    add-result-3
+    returns
+    returns-2
+    returns-3
+    returns-4)

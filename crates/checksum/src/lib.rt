@@ -1,0 +1,61 @@
+// The ones' complement sum of octets (RFC 1071) by 32-bit groups: these are added into a wider number, the carries at the end. The sum
+// doesn't depend on the order of a word's octets but for its own (RFC 1071, section 2), so groups are read as one load gives them.
+ghost use mathlib.Core.Path.{_≡_};
+ghost use Prim.Native.Nat.{_+_, _/_, _%_, _^_, _≤_, _<_};
+ghost use lib.ListN.{length};
+ghost use Rattle.octets.specs.LittleEndian.{littleEndian};
+ghost use Rattle.checksum.specs.Sum.{onesSum};
+ghost use Rattle.checksum.specs.Groups.{groupSum};
+use octets::little32;
+use octets::wide;
+
+// The last group, of which there are 0 to 3 octets; what is missing is zero.
+fn last_group(s: &[u8], at: usize) -> u32
+    requires { ⌜ (at ≤ length (now s)) × (length (now s) < at + 4) ⌝ }
+    ensures { λ r. ⌜ (r ≡ littleEndian (now (s .entry)) at) × (r < 2 ^ 24) ⌝ }
+{
+    let left = s.len() - at;
+    match left {
+        0 => 0,
+        1 => wide(s[at]),
+        2 => wide(s[at]) + wide(s[at + 1]) * 256,
+        _ => wide(s[at]) + wide(s[at + 1]) * 256 + wide(s[at + 2]) * 65536,
+    }
+}
+
+// The sum of the groups; two a turn, as a header has few.
+fn group_sum(s: &[u8]) -> u64
+    requires { ⌜ length (now s) ≤ 65535 ⌝ }
+    ensures { λ r. ⌜ (r ≡ groupSum (now (s .entry))) × (r < 2 ^ 46) ⌝ }
+{
+    let mut sum: u64 = 0;
+    let mut at = 0;
+    while 8 <= s.len() - at {
+        sum += little32(s, at) as u64 + little32(s, at + 4) as u64;
+        at += 8;
+    }
+    if 4 <= s.len() - at {
+        sum += little32(s, at) as u64;
+        at += 4;
+    }
+    sum + last_group(s, at) as u64
+}
+
+// A round of carries: what stands above 16 bits is added in at the bottom.
+fn folded(sum: u64) -> u64
+    ensures { λ r. ⌜ r ≡ sum % 65536 + sum / 65536 ⌝ }
+{
+    sum % 65536 + sum / 65536
+}
+
+// The ones' complement sum of up to 65,535 octets. Three rounds of carries are enough for what is below 2^46.
+pub fn ones_sum(s: &[u8]) -> u16
+    requires { ⌜ length (now s) ≤ 65535 ⌝ }
+    ensures { λ r. ⌜ r ≡ onesSum (now (s .entry)) ⌝ }
+{
+    let sum = group_sum(s);
+    let once = folded(sum);
+    let twice = folded(once);
+    let thrice = folded(twice) as u16;
+    thrice % 256 * 256 + thrice / 256
+}
