@@ -25,21 +25,21 @@ pub carried-more : (x m : ℕ) → m ≤ 65537 * x → carried (x + 65535 * m) �
 unfolding carried
 carried-more x m h = omega arith
 
--- what a round of carries leaves: at most 16 bits and the carries,
+-- a round of carries changes nothing of it
+pub carried-fold : (s f : ℕ) → f ≡ s % 65536 + s / 65536 → carried f ≡ carried s
+unfolding carried
+carried-fold s f is = omega arith
+
+-- it leaves 16 bits and the carries at most,
 pub fold-below : (s f b : ℕ) → f ≡ s % 65536 + s / 65536 → s < 65536 * b → f < 65536 + b
 fold-below s f b is h = omega arith
 
--- and 16 bits of what is at most two words
-pub fold≤65535 : (s f : ℕ) → f ≡ s % 65536 + s / 65536 → s ≤ 131070 → f ≤ 65535
-fold≤65535 s f is h = omega arith
-
--- Times 256, which stands for the order of a word's octets: a round of carries changes nothing,
-pub carried-fold : (s f : ℕ) → f ≡ s % 65536 + s / 65536 → carried (256 * f) ≡ carried (256 * s)
-carried-fold s f is =
-    let more : 256 * s ≡ 256 * f + 65535 * (256 * (s / 65536)) = omega arith in
-    rw more (sym (carried-more (256 * f) (256 * (s / 65536)) (omega arith)))
-
--- and what is left of it in 16 bits has its octets turned.
-pub turned≡carried : (s : ℕ) → s ≤ 65535 → s % 256 * 256 + s / 256 ≡ carried (256 * s)
+-- and is the last one where two words were left
+pub fold≡carried : (s f : ℕ) → f ≡ s % 65536 + s / 65536 → s ≤ 131070 → f ≡ carried s
 unfolding carried
-turned≡carried s h = omega arith
+fold≡carried s f is h = omega arith
+
+-- Words with their octets turned have the sum with its octets turned (RFC 1071, section 2).
+pub turned≡carried : (s t : ℕ) → t ≡ carried s → t % 256 * 256 + t / 256 ≡ carried (256 * s)
+unfolding carried
+turned≡carried s t is = omega arith
