@@ -238,6 +238,7 @@ impl<'a> Timed<'a> {
             &self.case.name,
             each(self.best.0, self.rounds.0 * count),
             each(self.best.1, self.rounds.1 * count),
+            &[],
         );
     }
 }

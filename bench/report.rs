@@ -1,14 +1,22 @@
 //! The line that is printed for a case.
 use std::time::Duration;
 
-/// The two times are in nanoseconds.
-pub fn report(case: &str, ours: f64, reference: f64) {
-    println!(
+/// The times are in nanoseconds. What is timed besides is named, and has a ratio of its own.
+pub fn report(case: &str, ours: f64, reference: f64, besides: &[(&str, f64)]) {
+    print!(
         "{case} ours={} reference={} ratio={:.2}",
         nanoseconds(ours),
         nanoseconds(reference),
         ours / reference
     );
+    for &(name, time) in besides {
+        print!(
+            " {name}={} {name}_ratio={:.2}",
+            nanoseconds(time),
+            ours / time
+        );
+    }
+    println!();
 }
 
 /// Nanoseconds for each of so many calls or lines.

@@ -55,7 +55,7 @@ impl Timed<'_> {
 
     fn report(&self) {
         let [ours, reference] = self.best.map(|time| each(time, self.lines));
-        report(self.case, ours, reference);
+        report(self.case, ours, reference, &[]);
     }
 }
 

@@ -1,15 +1,18 @@
-// Runs a script over the packet reader and over the reader and the writer of trace lines. Each line of the script is one of
+// Runs a script over the packet reader, the reader and the writer of trace lines, and the ones' complement sum. Each line of the script is
+// one of
 //   # TEXT                          echo this line
 //   b HEX                           append these bytes, at most 2,000, to the buffer
 //   f BB NNNNN                      append NNNNN copies of the byte BB
 //   p                               read the buffer as a packet
 //   r NNNNN                         read the buffer as a trace line into NNNNN bytes
 //   w SS CCCCCCCCCCCCCCCC NNNNN     write the buffer as a trace line into NNNNN bytes, with this side and clock
-// and p, r and w empty the buffer and print one of
+//   s                               sum the buffer, of at most 65,535 bytes
+// and p, r, w and s empty the buffer and print one of
 //   ANSWER                          p, refused
 //   0 SOURCE DESTINATION SPORT DPORT SEQ ACK WINDOW FLAGS OCTETS
 //   ANSWER SIDE CLOCK LENGTH OFFSET HEX
 //   ANSWER LENGTH TEXT
+//   SUM                             four hex digits
 // where HEX and TEXT are all NNNNN bytes, each '.' before, or '-' where there are none.
 ghost use Prim.Native.Nat.{_≤_, _<_};
 use address::Flow;
@@ -206,7 +209,18 @@ fn write_line(line: &[u8], bytes: &[u8], out: &mut Output, used: usize) -> usize
     show_written(line, bytes, &mut text[0..n], out, used)
 }
 
-// The command p, r or w.
+// The command s; what is past 65,535 bytes is left out.
+fn sum(bytes: &[u8], out: &mut Output, used: usize) -> usize
+    requires { ⌜ used ≤ 65536 ⌝ }
+    ensures { λ r. ⌜ r ≤ 65536 ⌝ }
+{
+    let n = script::least(bytes.len(), 65535);
+    let sum = checksum::ones_sum(&bytes[0..n]);
+    let octets = [(sum / 256) as u8, (sum % 256) as u8];
+    put_hex(out, used, &octets)
+}
+
+// The command p, r, w or s.
 fn answer(line: &[u8], bytes: &[u8], out: &mut Output, used: usize) -> usize
     requires { ⌜ used ≤ 65536 ⌝ }
     ensures { λ r. ⌜ r ≤ 65536 ⌝ }
@@ -215,6 +229,7 @@ fn answer(line: &[u8], bytes: &[u8], out: &mut Output, used: usize) -> usize
     match command {
         b'p' => read_packet(bytes, out, used),
         b'r' => read_line(line, bytes, out, used),
+        b's' => sum(bytes, out, used),
         _ => write_line(line, bytes, out, used),
     }
 }
@@ -247,7 +262,7 @@ fn step(line: &[u8], buffer: &mut Buffer, out: &mut Output, used: Used) -> Used
             buffer: append(buffer, held, hex_pair(line, 2), decimal_number(line, 2)),
             output: at,
         },
-        b'p' | b'r' | b'w' => {
+        b'p' | b'r' | b's' | b'w' => {
             let all = &buffer[..];
             let end = answer(line, &all[0..held], out, at);
             ended(out, end, 0)
