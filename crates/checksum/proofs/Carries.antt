@@ -1,6 +1,6 @@
 -- Adding the carries in leaves a sum's rest modulo 65,535, and 0 only of 0.
 use Prim.Native.Nat.{ℕ, _+_, _-_, _*_, _/_, _%_, _≤_, _<_}
-use mathlib.Core.Path.{_≡_, sym}
+use mathlib.Core.Path.{_≡_, _∙_}
 use native.Mathlib.Omega.{arith}
 use Rattle.checksum.specs.Sum.{onesPlus}
 
@@ -31,13 +31,23 @@ unfolding carried
 carried-fold s f is = omega arith
 
 -- it leaves 16 bits and the carries at most,
-pub fold-below : (s f b : ℕ) → f ≡ s % 65536 + s / 65536 → s < 65536 * b → f < 65536 + b
+fold-below : (s f b : ℕ) → f ≡ s % 65536 + s / 65536 → s < 65536 * b → f < 65536 + b
 fold-below s f b is h = omega arith
 
 -- and is the last one where two words were left
 pub fold≡carried : (s f : ℕ) → f ≡ s % 65536 + s / 65536 → s ≤ 131070 → f ≡ carried s
 unfolding carried
 fold≡carried s f is h = omega arith
+
+-- three rounds add every carry into what is below 2^46
+pub three-folds≡carried :
+    (s once twice thrice : ℕ) →
+    once ≡ s % 65536 + s / 65536 → twice ≡ once % 65536 + once / 65536 → thrice ≡ twice % 65536 + twice / 65536 →
+    s < 70368744177664 → thrice ≡ carried s
+three-folds≡carried s once twice thrice first second third h =
+    let once-below : once < 1073807360 = fold-below s once 1073741824 first h in
+    let twice-below : twice < 81921 = fold-below once twice 16385 second once-below in
+    fold≡carried twice thrice third (omega arith) ∙ carried-fold once twice second ∙ carried-fold s once first
 
 -- Words with their octets turned have the sum with its octets turned (RFC 1071, section 2).
 pub turned≡carried : (s t : ℕ) → t ≡ carried s → t % 256 * 256 + t / 256 ≡ carried (256 * s)

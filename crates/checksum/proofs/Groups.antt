@@ -39,9 +39,13 @@ group-before a b c d y z ha hb hc hd is =
     let words = a * 256 + b + (c * 256 + d + 256 * y) in
     let more : 256 * (a + b * 256 + c * 65536 + d * 16777216 + y) ≡ words + 65535 * (b + c * 256 + d * 65537) = omega arith in
     let lower : onesPlus (c * 256 + d) z ≡ carried (c * 256 + d + 256 * y) =
-        rw (is, onesPlus≡carried (c * 256 + d) (carried (256 * y)) (omega arith) (carried≤65535 (256 * y))) (carried-add (c * 256 + d) (256 * y)) in
-    rw (lower, onesPlus≡carried (a * 256 + b) (carried (c * 256 + d + 256 * y)) (omega arith) (carried≤65535 (c * 256 + d + 256 * y)), more,
-      carried-more words (b + c * 256 + d * 65537) (omega arith))
+    rw (is, onesPlus≡carried (c * 256 + d) (carried (256 * y)) (omega arith) (carried≤65535 (256 * y))) (carried-add (c * 256 + d) (256 * y)) in
+    rw (
+      lower,
+      onesPlus≡carried (a * 256 + b) (carried (c * 256 + d + 256 * y)) (omega arith) (carried≤65535 (c * 256 + d + 256 * y)),
+      more,
+      carried-more words (b + c * 256 + d * 65537) (omega arith),
+    )
     (carried-add (a * 256 + b) (c * 256 + d + 256 * y))
 
 pub onesSum≡carried : (l : List ℕ) → Octets l → onesSum l ≡ carried (256 * groupSum l)

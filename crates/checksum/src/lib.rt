@@ -7,6 +7,7 @@ ghost use Rattle.octets.specs.LittleEndian.{littleEndian};
 ghost use Rattle.checksum.specs.Sum.{onesSum};
 ghost use Rattle.checksum.specs.Groups.{groupSum};
 use octets::little32;
+use octets::swapped16;
 use octets::wide;
 
 // The last group, of which there are 0 to 3 octets; what is missing is zero.
@@ -56,6 +57,6 @@ pub fn ones_sum(s: &[u8]) -> u16
     let sum = group_sum(s);
     let once = folded(sum);
     let twice = folded(once);
-    let thrice = folded(twice) as u16;
-    thrice % 256 * 256 + thrice / 256
+    let thrice = folded(twice);
+    swapped16(thrice as u16)
 }

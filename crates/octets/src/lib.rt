@@ -29,7 +29,14 @@ pub fn little32(s: &[u8], at: usize) -> u32
     wide(s[at]) + wide(s[at + 1]) * 256 + wide(s[at + 2]) * 65536 + wide(s[at + 3]) * 16777216
 }
 
-// A word's octets the other way round: in this form the compiler makes one instruction of it.
+// Two octets the other way round: in this form the compiler makes one instruction of it.
+pub fn swapped16(w: u16) -> u16
+    ensures { λ r. ⌜ r ≡ w % 256 * 256 + w / 256 ⌝ }
+{
+    w % 256 * 256 + w / 256
+}
+
+// Four octets the other way round: one instruction again.
 fn swapped(w: u32) -> u32
     ensures { λ r. ⌜ r ≡ w % 256 * 16777216 + w / 256 % 256 * 65536 + w / 256 / 256 % 256 * 256 + w / 256 / 256 / 256 ⌝ }
 {
@@ -55,7 +62,7 @@ pub fn write16(s: &mut [u8], at: usize, v: u16)
     requires { ⌜ at + 2 ≤ length (now s) ⌝ }
     ensures { λ r. ⌜ now (s .exit) ≡ overwrite (now (s .entry)) at (octetsOf 2 v) ⌝ }
 {
-    let turned = v % 256 * 256 + v / 256;
+    let turned = swapped16(v);
     s[at] = (turned % 256) as u8;
     s[at + 1] = (turned / 256) as u8;
 }

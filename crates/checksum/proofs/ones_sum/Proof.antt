@@ -1,8 +1,8 @@
 -- Three rounds add every carry in; then the octets are turned.
-use Prim.Native.Nat.{_≤_, _<_}
+use Prim.Native.Nat.{_≤_}
 use mathlib.Core.Path.{_≡_, sym, _∙_}
 use native.Mathlib.Omega.{arith}
-use Rattle.checksum.proofs.Carries.{carried, carried≤65535, carried-fold, fold-below, fold≡carried, turned≡carried}
+use Rattle.checksum.proofs.Carries.{carried, carried≤65535, three-folds≡carried, turned≡carried}
 use Rattle.checksum.proofs.Groups.{onesSum≡carried}
 use borrow.Author.Needs.{needs}
 use Rattle.checksum.proofs.ones_sum.Statement.{statement}
@@ -10,17 +10,11 @@ use Rattle.checksum.proofs.ones_sum.Tie as tie
 
 thrice-carried : (c : tie.After-folded3) → c .folded3 .result ≡ carried (c .before .before .before .group-sum .result)
 thrice-carried c =
-    let sum = c .before .before .before .group-sum .result in
-    let once = c .before .before .folded .result in
-    let twice = c .before .folded2 .result in
-    let once-below : once < 1073807360 = fold-below sum once 1073741824 (omega arith) (omega arith) in
-    let twice-below : twice < 81921 = fold-below once twice 16385 (omega arith) once-below in
-    fold≡carried twice (c .folded3 .result) (omega arith) (omega (arith, twice-below))
-    ∙ carried-fold once twice (omega arith)
-    ∙ carried-fold sum once (omega arith)
-
-bits16 : (c : tie.After-folded3) → c .folded3 .result ≤ 65535
-bits16 c = rw (thrice-carried c) (carried≤65535 (c .before .before .before .group-sum .result))
+    let twice = c .before .folded2 in
+    let once = c .before .before .folded in
+    let sum = c .before .before .before .group-sum in
+    three-folds≡carried (sum .result) (once .result) (twice .result) (c .folded3 .result) (once .ensures) (twice .ensures) (c .folded3 .ensures)
+    (sum .ensures .1)
 
 group-sum-requires : tie.Need-group-sum-requires
 group-sum-requires c κs = search needs
@@ -34,22 +28,20 @@ folded-requires-2 c κs = search needs
 folded-requires-3 : tie.Need-folded-requires-3
 folded-requires-3 c κs = search needs
 
-cast-thrice : tie.Need-cast-thrice
-cast-thrice c = omega (arith, bits16 c)
+cast-swapped16 : tie.Need-cast-swapped16
+cast-swapped16 c = omega (arith, thrice-carried c, carried≤65535 (c .before .before .before .group-sum .result))
 
-mul-result : tie.Need-mul-result
-mul-result c = search needs
-
-add-result : tie.Need-add-result
-add-result c = omega (arith, bits16 c)
+swapped16-requires : tie.Need-swapped16-requires
+swapped16-requires c κs = search needs
 
 returns : tie.Need-returns
 returns c =
-    let k = c .before .before .before in
+    let k = c .before .before .before .before in
     let s = k .before .before .args .s .now in
-    turned≡carried (k .group-sum .result) (c .folded3 .result) (thrice-carried c)
+    c .swapped16 .ensures
+    ∙ turned≡carried (k .group-sum .result) (c .before .folded3 .result) (thrice-carried (c .before))
     ∙ rw (k .group-sum .ensures .0) (sym (onesSum≡carried s λ i. k .before .shared-slice-known .given i .fits))
 
 pub ones-sum-spec : {M : Type 1} → statement M
 ones-sum-spec =
-    tie.close (tie.spec group-sum-requires folded-requires folded-requires-2 folded-requires-3 cast-thrice mul-result add-result returns)
+    tie.close (tie.spec group-sum-requires folded-requires folded-requires-2 folded-requires-3 cast-swapped16 swapped16-requires returns)

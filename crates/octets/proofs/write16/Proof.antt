@@ -10,11 +10,8 @@ use borrow.Author.Needs.{needs}
 use Rattle.octets.proofs.write16.Statement.{statement}
 use Rattle.octets.proofs.write16.Tie as tie
 
-mul-turned : tie.Need-mul-turned
-mul-turned c = search needs
-
-add-turned : tie.Need-add-turned
-add-turned c = search needs
+swapped16-requires : tie.Need-swapped16-requires
+swapped16-requires c κs = search needs
 
 cast-s : tie.Need-cast-s
 cast-s c = search needs
@@ -36,19 +33,18 @@ same-length c = search needs
 
 returns : tie.Need-returns
 returns c =
-    let a = c .args in
-    let turned = a .v % 256 * 256 + a .v / 256 in
+    let a = c .before .before .args in
+    let turned = c .swapped16 .result in
     let first : turned % 256 ≡ a .v / 256 = omega arith in
     let second : turned / 256 ≡ a .v % 256 = omega arith in
-    set-set≡overwrite (a .s .now) (a .at) (turned % 256) (turned / 256) (c .pre)
+    set-set≡overwrite (a .s .now) (a .at) (turned % 256) (turned / 256) (c .before .before .pre)
     ∙ ap (λ (l : List ℕ). overwrite (a .s .now) (a .at) l) (rw (octetsOf-2 (a .v) (omega arith), first, second))
 
 pub write16-spec : {M : Type 1} → statement M
 write16-spec =
     tie.close
     (tie.spec
-    mul-turned
-    add-turned
+    swapped16-requires
     cast-s
     slice-write-s
     cast-s-2

@@ -1,0 +1,48 @@
+-- Ones' complement addition is associative, so the words' sum is that of their parts.
+use Prim.Native.Nat.{ℕ, suc, _+_, _*_, _%_, _≤_}
+use mathlib.Core.Path.{_≡_, refl, sym, ap, _∙_}
+use mathlib.Core.List.{List, [], _∷_, _++_}
+use native.Mathlib.Omega.{arith}
+use lib.ListN.{length}
+use Rattle.octets.specs.Octets.{Octets}
+use Rattle.checksum.specs.Sum.{onesPlus, onesSum}
+use Rattle.checksum.specs.Parts.{SumOfParts, WholeWordsNeeded}
+use Rattle.checksum.proofs.Carries.{carried, carried≤65535, onesPlus≡carried, carried-add}
+
+onesPlus≤65535 : (x y : ℕ) → x ≤ 65535 → y ≤ 65535 → onesPlus x y ≤ 65535
+onesPlus≤65535 x y hx hy = rw (onesPlus≡carried x y hx hy) (carried≤65535 (x + y))
+
+onesSum≤65535 : (l : List ℕ) → Octets l → onesSum l ≤ 65535
+unfolding onesSum
+onesSum≤65535 [] small = omega arith
+onesSum≤65535 (a ∷ []) small = omega (arith, small 0)
+onesSum≤65535 (a ∷ b ∷ l) small =
+    onesPlus≤65535 (a * 256 + b) (onesSum l) (omega (arith, small 0, small 1)) (onesSum≤65535 l (λ i. small (suc (suc i))))
+
+onesPlus-assoc :
+    (x y z : ℕ) → x ≤ 65535 → y ≤ 65535 → z ≤ 65535 → onesPlus x (onesPlus y z) ≡ onesPlus (onesPlus x y) z
+onesPlus-assoc x y z hx hy hz =
+    let other-way : carried (x + y) + z ≡ z + carried (x + y) = omega arith in
+    let same : x + (y + z) ≡ z + (x + y) = omega arith in
+    rw (
+      onesPlus≡carried y z hy hz,
+      onesPlus≡carried x y hx hy,
+      onesPlus≡carried x (carried (y + z)) hx (carried≤65535 (y + z)),
+      onesPlus≡carried (carried (x + y)) z (carried≤65535 (x + y)) hz,
+      other-way,
+    )
+    (carried-add x (y + z) ∙ ap carried same ∙ sym (carried-add z (x + y)))
+
+pub sum-of-parts : SumOfParts
+unfolding onesSum onesPlus
+sum-of-parts [] second one two whole = omega (arith, onesSum≤65535 second two)
+sum-of-parts (a ∷ []) second one two whole = omega (arith, whole)
+sum-of-parts (a ∷ b ∷ l) second one two whole =
+    let rest : Octets l = λ i. one (suc (suc i)) in
+    let parts : onesSum (l ++ second) ≡ onesPlus (onesSum l) (onesSum second) = sum-of-parts l second rest two (omega (arith, whole)) in
+    ap (onesPlus (a * 256 + b)) parts
+    ∙ onesPlus-assoc (a * 256 + b) (onesSum l) (onesSum second) (omega (arith, one 0, one 1)) (onesSum≤65535 l rest) (onesSum≤65535 second two)
+
+pub whole-words-needed : WholeWordsNeeded
+unfolding onesSum onesPlus
+whole-words-needed = (refl, refl)
