@@ -1,9 +1,10 @@
-//! Test vectors for the packet reader and the trace line reader and writer.
+//! Test vectors for the packet reader, the trace line reader and writer and the
+//! ones' complement sum.
 //!
-//! The expected results were worked out by hand from document 01 and stand in
-//! the tables as the lines that a run prints. The program checks that this
-//! library agrees with all of them, then prints the input script (argument
-//! `stdin`) or the expected output (argument `stdout`).
+//! The expected results were worked out by hand from document 01 and RFC 1071
+//! and stand in the tables as the lines that a run prints. The program checks
+//! that this library agrees with all of them, then prints the input script
+//! (argument `stdin`) or the expected output (argument `stdout`).
 //!
 //! The script, each line ended by a newline; a buffer starts empty:
 //!
@@ -18,10 +19,13 @@
 //! - `w SS CCCCCCCCCCCCCCCC NNNNN`: writes the buffer as a trace line with this
 //!   side and clock, in hex, to such an output. Prints `ANSWER LENGTH OUT`,
 //!   `OUT` being the whole output as it is.
+//! - `s`: adds up the buffer, at most 65,535 bytes, as a ones' complement sum.
+//!   Prints it as four lower-case hex digits.
 //!
-//! `p`, `r` and `w` empty the buffer. An `OUT` of no bytes is printed as `-`.
+//! `p`, `r`, `w` and `s` empty the buffer. An `OUT` of no bytes is printed as
+//! `-`.
 
-use reference::{packet, trace};
+use reference::{checksum, packet, trace};
 use std::io::{self, Write};
 use std::process::ExitCode;
 
@@ -31,6 +35,8 @@ mod line_reader;
 mod line_writer;
 #[path = "vectors/packets.rs"]
 mod packets;
+#[path = "vectors/sums.rs"]
+mod sums;
 
 /// What an output holds before the call.
 const BEFORE: u8 = 0x2e;
@@ -38,6 +44,8 @@ const BEFORE: u8 = 0x2e;
 const BYTES_PER_LINE: usize = 2000;
 /// The longest buffer.
 const LONGEST_BUFFER: usize = 66_000;
+/// The longest buffer that is added up.
+const LONGEST_SUM: usize = 65_535;
 /// Equal bytes in a row from which on an `f` line is used.
 const SHORTEST_FILL: usize = 16;
 
@@ -46,6 +54,7 @@ enum Call {
     ReadPacket,
     ReadLine { room: usize },
     WriteLine { side: u8, clock: u64, room: usize },
+    Sum,
 }
 
 /// A call and the line that it prints.
@@ -65,6 +74,7 @@ impl Vector {
             Call::WriteLine { side, clock, room } => {
                 format!("w {side:02x} {clock:016x} {room:05}")
             }
+            Call::Sum => "s".to_string(),
         };
         format!("# {}\n{}{call}\n", self.label, buffer_lines(&self.buffer))
     }
@@ -82,6 +92,7 @@ impl Vector {
             Call::WriteLine { side, clock, room } => {
                 run_write_line(side, clock, &self.buffer, room)
             }
+            Call::Sum => run_sum(&self.buffer),
         }
     }
 }
@@ -152,6 +163,10 @@ fn run_write_line(side: u8, clock: u64, packet: &[u8], room: usize) -> String {
     format!("{} {} {}", written.answer, written.length, or_dash(text))
 }
 
+fn run_sum(buffer: &[u8]) -> String {
+    format!("{:04x}", checksum::ones_complement_sum(buffer))
+}
+
 fn or_dash(text: String) -> String {
     if text.is_empty() {
         "-".to_string()
@@ -169,6 +184,7 @@ fn check(vector: &Vector) {
         Call::ReadPacket => {}
         Call::ReadLine { room } => assert!(room <= 2100, "{label}: room"),
         Call::WriteLine { room, .. } => assert!(room <= 4200, "{label}: room"),
+        Call::Sum => assert!(vector.buffer.len() <= LONGEST_SUM, "{label}: sum"),
     }
     assert_eq!(vector.run(), vector.expected, "{label}");
 }
@@ -177,6 +193,7 @@ fn main() -> ExitCode {
     let mut vectors = packets::vectors();
     vectors.extend(line_reader::vectors());
     vectors.extend(line_writer::vectors());
+    vectors.extend(sums::vectors());
     vectors.iter().for_each(check);
 
     let text: String = match std::env::args().nth(1).as_deref() {
@@ -208,6 +225,7 @@ mod tests {
             packets::vectors(),
             line_reader::vectors(),
             line_writer::vectors(),
+            sums::vectors(),
         ];
         for vector in tables.iter().flatten() {
             check(vector);
