@@ -1,4 +1,5 @@
 //! The packets that are filtered: segments of made-up connections.
+use reference::checksum::ones_complement_sum;
 use reference::table::Names;
 
 pub const SYN: u8 = 0x02;
@@ -65,14 +66,4 @@ impl Draft {
         header.resize(self.header, 1);
         header
     }
-}
-
-fn ones_complement_sum(header: &[u8]) -> u16 {
-    let sum: u32 = header
-        .chunks_exact(2)
-        .map(|word| u32::from(u16::from_be_bytes([word[0], word[1]])))
-        .sum();
-    // 30 words have a sum below 2^21: two folds leave 16 bits.
-    let once = (sum & 0xffff) + (sum >> 16);
-    ((once & 0xffff) + (once >> 16)) as u16
 }

@@ -1,10 +1,10 @@
 -- The groups' sum, its carries added in and its octets turned, is the ones' complement sum.
-use Prim.Native.Nat.{ℕ, suc, _+_, _*_, _/_, _%_, _≤_, _<_}
-use mathlib.Core.Path.{_≡_, refl, sym, ap, _∙_}
+use Prim.Native.Nat.{ℕ, suc, _+_, _*_, _≤_, _<_}
+use mathlib.Core.Path.{_≡_, refl}
 use mathlib.Core.List.{List, [], _∷_}
 use native.Mathlib.Nat.{add-zero}
 use native.Mathlib.Omega.{arith}
-use lib.ListN.{length, getD, drop, drop-of-length-le}
+use lib.ListN.{length, drop, drop-of-length-le}
 use lib.Seq.{getD-drop, drop-drop}
 use Rattle.octets.specs.Octets.{Octets}
 use Rattle.octets.specs.LittleEndian.{littleEndian}
@@ -48,12 +48,12 @@ group-before a b c d y z ha hb hc hd is =
     )
     (carried-add (a * 256 + b) (c * 256 + d + 256 * y))
 
-pub onesSum≡carried : (l : List ℕ) → Octets l → onesSum l ≡ carried (256 * groupSum l)
+pub onesSum≡carried-groups : (l : List ℕ) → Octets l → onesSum l ≡ carried (256 * groupSum l)
 unfolding onesSum groupSum carried onesPlus
-onesSum≡carried [] small = omega arith
-onesSum≡carried (a ∷ []) small = omega (arith, small 0)
-onesSum≡carried (a ∷ b ∷ []) small = omega (arith, small 0, small 1)
-onesSum≡carried (a ∷ b ∷ c ∷ []) small = omega (arith, small 0, small 1, small 2)
-onesSum≡carried (a ∷ b ∷ c ∷ d ∷ l) small =
+onesSum≡carried-groups [] small = omega arith
+onesSum≡carried-groups (a ∷ []) small = omega (arith, small 0)
+onesSum≡carried-groups (a ∷ b ∷ []) small = omega (arith, small 0, small 1)
+onesSum≡carried-groups (a ∷ b ∷ c ∷ []) small = omega (arith, small 0, small 1, small 2)
+onesSum≡carried-groups (a ∷ b ∷ c ∷ d ∷ l) small =
     group-before a b c d (groupSum l) (onesSum l) (small 0) (small 1) (small 2) (small 3)
-    (onesSum≡carried l (λ i. small (suc (suc (suc (suc i))))))
+    (onesSum≡carried-groups l (λ i. small (suc (suc (suc (suc i))))))

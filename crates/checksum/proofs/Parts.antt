@@ -1,9 +1,8 @@
 -- Ones' complement addition is associative, so the words' sum is that of their parts.
-use Prim.Native.Nat.{ℕ, suc, _+_, _*_, _%_, _≤_}
+use Prim.Native.Nat.{ℕ, suc, _+_, _*_, _≤_}
 use mathlib.Core.Path.{_≡_, refl, sym, ap, _∙_}
 use mathlib.Core.List.{List, [], _∷_, _++_}
 use native.Mathlib.Omega.{arith}
-use lib.ListN.{length}
 use Rattle.octets.specs.Octets.{Octets}
 use Rattle.checksum.specs.Sum.{onesPlus, onesSum}
 use Rattle.checksum.specs.Parts.{SumOfParts, WholeWordsNeeded}

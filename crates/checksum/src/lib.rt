@@ -1,5 +1,5 @@
-// The ones' complement sum of octets (RFC 1071) by 32-bit groups: these are added into a wider number, the carries at the end. The sum
-// doesn't depend on the order of a word's octets but for its own (RFC 1071, section 2), so groups are read as one load gives them.
+// The ones' complement sum of octets (RFC 1071) by 32-bit groups, added into 64 bits, the carries at the end. Where the octets of every
+// word are turned, those of the sum are (RFC 1071, section 2): so a group is read as one load gives it, and the sum is turned.
 ghost use mathlib.Core.Path.{_≡_};
 ghost use Prim.Native.Nat.{_+_, _/_, _%_, _^_, _≤_, _<_};
 ghost use lib.ListN.{length};

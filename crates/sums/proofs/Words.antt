@@ -9,16 +9,16 @@ use lib.Seq.{getD-drop, drop-drop}
 use Rattle.octets.specs.Octets.{Octets}
 use Rattle.octets.specs.BigEndian.{bigEndian}
 use Rattle.octets.proofs.BigEndian.{bigEndian-2}
-use Rattle.checksum.specs.Sum.{onesPlus, onesSum}
+use Rattle.checksum.specs.Sum.{onesSum}
 use Rattle.checksum.proofs.Carries.{carried, carried≤65535, onesPlus≡carried, carried-add}
 use Rattle.sums.specs.Sums.{wordSum}
 
-pub onesSum≡carried : (l : List ℕ) → Octets l → onesSum l ≡ carried (wordSum l)
+pub onesSum≡carried-words : (l : List ℕ) → Octets l → onesSum l ≡ carried (wordSum l)
 unfolding onesSum wordSum carried
-onesSum≡carried [] small = refl
-onesSum≡carried (a ∷ []) small = omega (arith, small 0)
-onesSum≡carried (a ∷ b ∷ l) small =
-    let rest : onesSum l ≡ carried (wordSum l) = onesSum≡carried l (λ i. small (suc (suc i))) in
+onesSum≡carried-words [] small = refl
+onesSum≡carried-words (a ∷ []) small = omega (arith, small 0)
+onesSum≡carried-words (a ∷ b ∷ l) small =
+    let rest : onesSum l ≡ carried (wordSum l) = onesSum≡carried-words l (λ i. small (suc (suc i))) in
     rw (rest, onesPlus≡carried (a * 256 + b) (carried (wordSum l)) (omega (arith, small 0, small 1)) (carried≤65535 (wordSum l)))
     (carried-add (a * 256 + b) (wordSum l))
 

@@ -3,8 +3,8 @@
 ghost use mathlib.Core.Path.{_≡_};
 ghost use Prim.Native.Nat.{_^_, _≤_, _<_};
 ghost use lib.ListN.{length};
-ghost use Rattle.checksum.specs.Sum.{onesSum};
 ghost use Rattle.sums.specs.Sums.{wordSum, sumOrNone};
+use checksum::ones_sum;
 use octets::read16;
 use octets::wide;
 
@@ -25,16 +25,6 @@ fn word_sum(s: &[u8]) -> u32
     sum
 }
 
-// Two rounds of carries are enough for what 32 bits hold.
-fn ones_sum(s: &[u8]) -> u32
-    requires { ⌜ length (now s) ≤ 65535 ⌝ }
-    ensures { λ r. ⌜ r ≡ onesSum (now (s .entry)) ⌝ }
-{
-    let sum = word_sum(s);
-    let once = sum % 65536 + sum / 65536;
-    once % 65536 + once / 65536
-}
-
 // The sum by 32-bit groups; 65,536, which is no sum, of more than 65,535 octets.
 #[no_mangle]
 pub extern "C" fn sum_by_groups(s: &[u8]) -> u32
@@ -43,10 +33,10 @@ pub extern "C" fn sum_by_groups(s: &[u8]) -> u32
     if s.len() > 65535 {
         return 65536;
     }
-    checksum::ones_sum(s) as u32
+    ones_sum(s) as u32
 }
 
-// The same by 16-bit words.
+// The same by 16-bit words. Two rounds of carries are enough for what 32 bits hold.
 #[no_mangle]
 pub extern "C" fn sum_by_words(s: &[u8]) -> u32
     ensures { λ r. ⌜ r ≡ sumOrNone (now (s .entry)) ⌝ }
@@ -54,5 +44,7 @@ pub extern "C" fn sum_by_words(s: &[u8]) -> u32
     if s.len() > 65535 {
         return 65536;
     }
-    ones_sum(s)
+    let sum = word_sum(s);
+    let once = sum % 65536 + sum / 65536;
+    once % 65536 + once / 65536
 }

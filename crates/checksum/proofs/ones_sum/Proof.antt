@@ -3,7 +3,7 @@ use Prim.Native.Nat.{_≤_}
 use mathlib.Core.Path.{_≡_, sym, _∙_}
 use native.Mathlib.Omega.{arith}
 use Rattle.checksum.proofs.Carries.{carried, carried≤65535, three-folds≡carried, turned≡carried}
-use Rattle.checksum.proofs.Groups.{onesSum≡carried}
+use Rattle.checksum.proofs.Groups.{onesSum≡carried-groups}
 use borrow.Author.Needs.{needs}
 use Rattle.checksum.proofs.ones_sum.Statement.{statement}
 use Rattle.checksum.proofs.ones_sum.Tie as tie
@@ -40,7 +40,7 @@ returns c =
     let s = k .before .before .args .s .now in
     c .swapped16 .ensures
     ∙ turned≡carried (k .group-sum .result) (c .before .folded3 .result) (thrice-carried (c .before))
-    ∙ rw (k .group-sum .ensures .0) (sym (onesSum≡carried s λ i. k .before .shared-slice-known .given i .fits))
+    ∙ rw (k .group-sum .ensures .0) (sym (onesSum≡carried-groups s λ i. k .before .shared-slice-known .given i .fits))
 
 pub ones-sum-spec : {M : Type 1} → statement M
 ones-sum-spec =
