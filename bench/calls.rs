@@ -1,10 +1,12 @@
 //! Times the library's `qb_filter` and the reference's `filter` on the same calls, the best of RUNS batches of each. Built with
 //! `--cfg before`, it times an earlier library's `qb_filter_before` in the reference's place.
+mod batches;
 mod cases;
 mod packets;
 mod report;
 mod tables;
 
+use batches::rounds_needed;
 use cases::Case;
 use report::{each, report};
 use std::hint::black_box;
@@ -31,8 +33,6 @@ extern "C" {
     ) -> u32;
 }
 
-/// Long enough that reading the clock does not matter, short enough to run undisturbed now and then on a loaded machine.
-const BATCH: Duration = Duration::from_millis(2);
 /// The copies of a table together fit the first-level cache. There are several, so that no call waits for what the last one wrote.
 const CACHED: usize = 32 << 10;
 /// Tables begin with a cache line, whichever implementation they are lent to.
@@ -192,15 +192,6 @@ fn batch<F: Filter>(case: &Case, copies: &mut Copies, rounds: usize) -> Duration
     total
 }
 
-/// How many rounds make a batch long enough. Three have to be, as a disturbed one takes longer than it should.
-fn rounds_needed<F: Filter>(case: &Case, copies: &mut Copies) -> usize {
-    let mut rounds = 1;
-    while !(0..3).all(|_| batch::<F>(case, copies, rounds) >= BATCH) {
-        rounds *= 2;
-    }
-    rounds
-}
-
 /// A case with the best times so far.
 struct Timed<'a> {
     case: &'a Case,
@@ -213,8 +204,8 @@ impl<'a> Timed<'a> {
     fn new(case: &'a Case) -> Timed<'a> {
         let mut copies = Copies::of(&case.table);
         let rounds = (
-            rounds_needed::<Ours>(case, &mut copies),
-            rounds_needed::<Reference>(case, &mut copies),
+            rounds_needed(|rounds| batch::<Ours>(case, &mut copies, rounds)),
+            rounds_needed(|rounds| batch::<Reference>(case, &mut copies, rounds)),
         );
         Timed {
             case,

@@ -1,18 +1,18 @@
 //! Times three sums of the same octets, the best of RUNS batches of each: by 32-bit groups, which is ours, by a plain loop over 16-bit
 //! words that the same compiler made, and the reference's.
+mod batches;
 #[path = "../compare/sums/library.rs"]
 mod library;
 mod report;
 
+use batches::rounds_needed;
 use library::{sum_by_groups, sum_by_words};
 use report::{each, report};
 use std::hint::black_box;
 use std::time::{Duration, Instant};
 
-/// A header without and with all options, and what an Ethernet frame holds of a stream.
+/// A header without options, one with 40 bytes of them, and what an Ethernet frame holds of a stream.
 const LENGTHS: [usize; 3] = [20, 60, 1460];
-/// Long enough that reading the clock does not matter, short enough to run undisturbed now and then on a loaded machine.
-const BATCH: Duration = Duration::from_millis(2);
 
 type Sum = fn(&[u8]) -> u32;
 /// In the order in which they are reported.
@@ -30,15 +30,6 @@ fn batch(sum: Sum, octets: &[u8], count: usize) -> Duration {
     began.elapsed()
 }
 
-/// How many sums make a batch long enough. Three have to be, as a disturbed one takes longer than it should.
-fn count_needed(sum: Sum, octets: &[u8]) -> usize {
-    let mut count = 1;
-    while !(0..3).all(|_| batch(sum, octets, count) >= BATCH) {
-        count *= 2;
-    }
-    count
-}
-
 /// The octets of a case with the best times so far.
 struct Timed<'a> {
     octets: &'a [u8],
@@ -53,7 +44,7 @@ impl<'a> Timed<'a> {
         assert_eq!(ours, reference, "sum/{}", octets.len());
         Timed {
             octets,
-            counts: SUMS.map(|sum| count_needed(sum, octets)),
+            counts: SUMS.map(|sum| rounds_needed(|count| batch(sum, octets, count))),
             best: [Duration::MAX; 3],
         }
     }

@@ -1,4 +1,4 @@
-//! Holds the two proved sums to the reference's: for COUNT random lists of octets of SEED, of every short length and up to the longest.
+//! Holds the two proved sums to the reference's: for COUNT random lists of octets of SEED, of every short length, up to the longest and past it.
 use reference::checksum::ones_complement_sum;
 
 #[path = "sums/library.rs"]
@@ -14,7 +14,7 @@ use random::Random;
 const LONGEST: usize = 65_535;
 /// What the library gives of more octets than the longest.
 const NO_SUM: u32 = 65_536;
-/// Octets before and after those that are summed; a sum that took one of them in would differ.
+/// Octets before and after those that are summed; a sum that took one of them in would differ as a rule.
 const AROUND: usize = 16;
 
 /// Most are about as long as a header; some are at the limit.
@@ -28,7 +28,7 @@ fn random_length(random: &mut Random) -> usize {
     }
 }
 
-/// Octets of every kind: random, all alike, and a few among zeros or ones.
+/// Octets of every kind: random, all alike, and a few among equal ones.
 fn random_octets(random: &mut Random, length: usize) -> Vec<u8> {
     let fill = random.pick(&[0, 0xff, 1, 0x80]);
     let mut octets = vec![fill; length];

@@ -5,11 +5,12 @@ use mathlib.Core.List.{List, [], _∷_, _++_}
 use native.Mathlib.Omega.{arith}
 use Rattle.octets.specs.Octets.{Octets}
 use Rattle.checksum.specs.Sum.{onesPlus, onesSum}
+use Rattle.checksum.specs.Groups.{reduced}
 use Rattle.checksum.specs.Parts.{SumOfParts, WholeWordsNeeded}
-use Rattle.checksum.proofs.Carries.{carried, carried≤65535, onesPlus≡carried, carried-add}
+use Rattle.checksum.proofs.Reduced.{reduced≤65535, onesPlus≡reduced, reduced-add}
 
 onesPlus≤65535 : (x y : ℕ) → x ≤ 65535 → y ≤ 65535 → onesPlus x y ≤ 65535
-onesPlus≤65535 x y hx hy = rw (onesPlus≡carried x y hx hy) (carried≤65535 (x + y))
+onesPlus≤65535 x y hx hy = rw (onesPlus≡reduced x y hx hy) (reduced≤65535 (x + y))
 
 onesSum≤65535 : (l : List ℕ) → Octets l → onesSum l ≤ 65535
 unfolding onesSum
@@ -21,16 +22,16 @@ onesSum≤65535 (a ∷ b ∷ l) small =
 onesPlus-assoc :
     (x y z : ℕ) → x ≤ 65535 → y ≤ 65535 → z ≤ 65535 → onesPlus x (onesPlus y z) ≡ onesPlus (onesPlus x y) z
 onesPlus-assoc x y z hx hy hz =
-    let other-way : carried (x + y) + z ≡ z + carried (x + y) = omega arith in
+    let other-way : reduced (x + y) + z ≡ z + reduced (x + y) = omega arith in
     let same : x + (y + z) ≡ z + (x + y) = omega arith in
     rw (
-      onesPlus≡carried y z hy hz,
-      onesPlus≡carried x y hx hy,
-      onesPlus≡carried x (carried (y + z)) hx (carried≤65535 (y + z)),
-      onesPlus≡carried (carried (x + y)) z (carried≤65535 (x + y)) hz,
+      onesPlus≡reduced y z hy hz,
+      onesPlus≡reduced x y hx hy,
+      onesPlus≡reduced x (reduced (y + z)) hx (reduced≤65535 (y + z)),
+      onesPlus≡reduced (reduced (x + y)) z (reduced≤65535 (x + y)) hz,
       other-way,
     )
-    (carried-add x (y + z) ∙ ap carried same ∙ sym (carried-add z (x + y)))
+    (reduced-add x (y + z) ∙ ap reduced same ∙ sym (reduced-add z (x + y)))
 
 pub sum-of-parts : SumOfParts
 unfolding onesSum onesPlus

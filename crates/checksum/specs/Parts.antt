@@ -1,5 +1,5 @@
 -- Octets in two parts: where the first has whole words, their sum is the sum of the parts' sums. So octets that stand apart, such as a
--- pseudo-header and a segment, are summed where they stand.
+-- pseudo-header and a segment, can be summed where they stand.
 use Prim.Native.Nat.{ℕ, _%_}
 use mathlib.Core.Path.{_≡_}
 use mathlib.Core.List.{List, [], _∷_, _++_}

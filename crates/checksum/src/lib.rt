@@ -1,11 +1,11 @@
-// The ones' complement sum of octets (RFC 1071) by 32-bit groups, added into 64 bits, the carries at the end. Where the octets of every
-// word are turned, those of the sum are (RFC 1071, section 2): so a group is read as one load gives it, and the sum is turned.
+// The ones' complement sum of octets (RFC 1071) by 32-bit groups, added into 64 bits, the carries at the end. Swapping the octets
+// of every word swaps those of the sum (RFC 1071, section 2), so groups are read as one load gives them, and the sum is swapped at the end.
 ghost use mathlib.Core.Path.{_≡_};
-ghost use Prim.Native.Nat.{_+_, _/_, _%_, _^_, _≤_, _<_};
+ghost use Prim.Native.Nat.{_+_, _^_, _≤_, _<_};
 ghost use lib.ListN.{length};
 ghost use Rattle.octets.specs.LittleEndian.{littleEndian};
 ghost use Rattle.checksum.specs.Sum.{onesSum};
-ghost use Rattle.checksum.specs.Groups.{groupSum};
+ghost use Rattle.checksum.specs.Groups.{groupSum, fold, reduced};
 use octets::little32;
 use octets::swapped16;
 use octets::wide;
@@ -24,7 +24,7 @@ fn last_group(s: &[u8], at: usize) -> u32
     }
 }
 
-// The sum of the groups; two a turn, as a header has few.
+// The sum of the groups, two per iteration (docs/DECISIONS.md has the times).
 fn group_sum(s: &[u8]) -> u64
     requires { ⌜ length (now s) ≤ 65535 ⌝ }
     ensures { λ r. ⌜ (r ≡ groupSum (now (s .entry))) × (r < 2 ^ 46) ⌝ }
@@ -44,19 +44,25 @@ fn group_sum(s: &[u8]) -> u64
 
 // A round of carries: what stands above 16 bits is added in at the bottom.
 fn folded(sum: u64) -> u64
-    ensures { λ r. ⌜ r ≡ sum % 65536 + sum / 65536 ⌝ }
+    ensures { λ r. ⌜ r ≡ fold sum ⌝ }
 {
     sum % 65536 + sum / 65536
 }
 
-// The ones' complement sum of up to 65,535 octets. Three rounds of carries are enough for what is below 2^46.
+// A sum with every carry added in. Three rounds are enough for what is below 2^46.
+fn carries_added(sum: u64) -> u16
+    requires { ⌜ sum < 2 ^ 46 ⌝ }
+    ensures { λ r. ⌜ r ≡ reduced sum ⌝ }
+{
+    let once = folded(sum);
+    let twice = folded(once);
+    folded(twice) as u16
+}
+
+// The ones' complement sum of up to 65,535 octets.
 pub fn ones_sum(s: &[u8]) -> u16
     requires { ⌜ length (now s) ≤ 65535 ⌝ }
     ensures { λ r. ⌜ r ≡ onesSum (now (s .entry)) ⌝ }
 {
-    let sum = group_sum(s);
-    let once = folded(sum);
-    let twice = folded(once);
-    let thrice = folded(twice);
-    swapped16(thrice as u16)
+    swapped16(carries_added(group_sum(s)))
 }

@@ -10,17 +10,18 @@ use Rattle.octets.specs.Octets.{Octets}
 use Rattle.octets.specs.BigEndian.{bigEndian}
 use Rattle.octets.proofs.BigEndian.{bigEndian-2}
 use Rattle.checksum.specs.Sum.{onesSum}
-use Rattle.checksum.proofs.Carries.{carried, carried≤65535, onesPlus≡carried, carried-add}
+use Rattle.checksum.specs.Groups.{reduced}
+use Rattle.checksum.proofs.Reduced.{reduced≤65535, onesPlus≡reduced, reduced-add}
 use Rattle.sums.specs.Sums.{wordSum}
 
-pub onesSum≡carried-words : (l : List ℕ) → Octets l → onesSum l ≡ carried (wordSum l)
-unfolding onesSum wordSum carried
-onesSum≡carried-words [] small = refl
-onesSum≡carried-words (a ∷ []) small = omega (arith, small 0)
-onesSum≡carried-words (a ∷ b ∷ l) small =
-    let rest : onesSum l ≡ carried (wordSum l) = onesSum≡carried-words l (λ i. small (suc (suc i))) in
-    rw (rest, onesPlus≡carried (a * 256 + b) (carried (wordSum l)) (omega (arith, small 0, small 1)) (carried≤65535 (wordSum l)))
-    (carried-add (a * 256 + b) (wordSum l))
+pub onesSum≡reduced-words : (l : List ℕ) → Octets l → onesSum l ≡ reduced (wordSum l)
+unfolding onesSum wordSum reduced
+onesSum≡reduced-words [] small = refl
+onesSum≡reduced-words (a ∷ []) small = omega (arith, small 0)
+onesSum≡reduced-words (a ∷ b ∷ l) small =
+    let rest : onesSum l ≡ reduced (wordSum l) = onesSum≡reduced-words l (λ i. small (suc (suc i))) in
+    rw (rest, onesPlus≡reduced (a * 256 + b) (reduced (wordSum l)) (omega (arith, small 0, small 1)) (reduced≤65535 (wordSum l)))
+    (reduced-add (a * 256 + b) (wordSum l))
 
 -- the first word, and those after it
 wordSum-first : (l : List ℕ) → wordSum l ≡ getD l 0 0 * 256 + getD l 1 0 + wordSum (drop 2 l)

@@ -5,7 +5,7 @@ use lib.ListN.{length}
 use Rattle.choice.specs.Choice.{if_then_else_, _<ᵇ_}
 use Rattle.checksum.specs.Sum.{onesSum}
 
--- 65,536 is no sum
+-- the sum of up to 65,535 octets; 65,536, which is no sum, of more
 unfoldable pub sumOrNone : List ℕ → ℕ
 sumOrNone l =
     if 65535 <ᵇ length l then 65536 else

@@ -2,6 +2,7 @@
 //! 10 refuse.
 
 use super::random::Random;
+use crate::checksum::ones_complement_sum;
 use crate::packet::{ACK, FIN, RST, SYN};
 use crate::table::Names;
 use crate::trace::LONGEST_PACKET;
@@ -111,15 +112,7 @@ fn write_checksum(packet: &mut [u8], random: &mut Random) {
         return;
     }
     packet[10..12].fill(0);
-    // Carries collect above 16 bits and come back down one by one: 30 words
-    // make fewer than 2^16 of them.
-    let mut sum = packet[..length].chunks_exact(2).fold(0u32, |sum, word| {
-        sum + u32::from(u16::from_be_bytes([word[0], word[1]]))
-    });
-    while sum > 0xffff {
-        sum = (sum >> 16) + (sum & 0xffff);
-    }
-    let mut checksum = !(sum as u16);
+    let mut checksum = !ones_complement_sum(&packet[..length]);
     // Ones' complement has two zeros; either makes the sum ffff.
     if checksum == 0 && random.once_in(2) {
         checksum = 0xffff;

@@ -81,8 +81,8 @@ pub fn vectors() -> Vec<Vector> {
     carries_between_words(&mut table);
     zeros(&mut table);
     ones(&mut table);
-    // From long to short: what one buffer leaves in memory past the end of the
-    // next must not come into its sum.
+    // These three from long to short: what one buffer leaves in memory past the
+    // end of the next must not come into its sum.
     rising_octets(&mut table);
     octets_fe(&mut table);
     odd_lengths(&mut table);
@@ -149,27 +149,30 @@ fn document_examples(table: &mut Table) {
         "9931",
         "9931",
     );
-    let pseudo_header = octets("0a00 0001 0a00 0002 0006 0014");
-    table.add("document pseudo-header", &pseudo_header, "141d");
-    for (name, segment) in [
+    let there = "0a00 0001 0a00 0002 0006 0014";
+    let back = "0a00 0002 0a00 0001 0006 0014";
+    table.add("document pseudo-header", octets(there), "141d");
+    for (name, pseudo_header, segment) in [
         (
             "document segment 1",
+            there,
             "0400 0050 0000 0064 0000 0000 5002 03e8 9344 0000",
         ),
         (
             "document segment 2",
+            back,
             "0050 0400 0000 01f4 0000 0065 5012 07d0 8d57 0000",
         ),
         (
             "document segment 3",
+            there,
             "0400 0050 0000 0065 0000 01f6 5010 03e8 913f 0000",
         ),
     ] {
-        let segment = octets(segment);
-        table.add(name, &segment, "ebe2");
+        table.add(name, octets(segment), "ebe2");
         table.add(
             format!("{name} after its pseudo-header"),
-            [&pseudo_header[..], &segment].concat(),
+            [octets(pseudo_header), octets(segment)].concat(),
             "ffff",
         );
     }
@@ -418,6 +421,8 @@ fn carries_between_words(table: &mut Table) {
         // Out of the group once more as the carries are added.
         ("ffff ffff ffff ffff 0000 0001", "3fffd", "0001"),
         ("ffff fffe ffff ffff 0000 0003", "3fffe", "0002"),
+        // Lowest octet first, the two groups come to 10000ffff: three rounds.
+        ("ffff ffff 0000 0100", "200fe", "0100"),
         // By 64 bits: the same.
         ("ffff ffff ffff ffff 0000 0000 0000 0001", "3fffd", "0001"),
         ("8000 0000 0000 0000 8000 0000 0000 0000", "10000", "0001"),
