@@ -9,7 +9,8 @@ use lib.Seq.{getD-drop, drop-drop}
 use Rattle.octets.specs.Octets.{Octets}
 use Rattle.octets.specs.LittleEndian.{littleEndian}
 use Rattle.checksum.specs.Sum.{onesPlus, onesSum}
-use Rattle.checksum.specs.Groups.{groupSum, reduced}
+use Rattle.checksum.specs.Groups.{groupSum}
+use Rattle.checksum.specs.Reduced.{reduced}
 use Rattle.checksum.proofs.Reduced.{onesPlus≡reduced, reduced≤65535, reduced-add, reduced-more}
 
 -- the first group, and those after it

@@ -1,3 +1,3 @@
 pub mod Reduced
-pub mod Parts
 pub mod Groups
+pub mod Parts

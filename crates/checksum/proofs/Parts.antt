@@ -5,19 +5,14 @@ use mathlib.Core.List.{List, [], _∷_, _++_}
 use native.Mathlib.Omega.{arith}
 use Rattle.octets.specs.Octets.{Octets}
 use Rattle.checksum.specs.Sum.{onesPlus, onesSum}
-use Rattle.checksum.specs.Groups.{reduced}
+use Rattle.checksum.specs.Groups.{groupSum}
+use Rattle.checksum.specs.Reduced.{reduced}
 use Rattle.checksum.specs.Parts.{SumOfParts, WholeWordsNeeded}
 use Rattle.checksum.proofs.Reduced.{reduced≤65535, onesPlus≡reduced, reduced-add}
-
-onesPlus≤65535 : (x y : ℕ) → x ≤ 65535 → y ≤ 65535 → onesPlus x y ≤ 65535
-onesPlus≤65535 x y hx hy = rw (onesPlus≡reduced x y hx hy) (reduced≤65535 (x + y))
+use Rattle.checksum.proofs.Groups.{onesSum≡reduced-groups}
 
 onesSum≤65535 : (l : List ℕ) → Octets l → onesSum l ≤ 65535
-unfolding onesSum
-onesSum≤65535 [] small = omega arith
-onesSum≤65535 (a ∷ []) small = omega (arith, small 0)
-onesSum≤65535 (a ∷ b ∷ l) small =
-    onesPlus≤65535 (a * 256 + b) (onesSum l) (omega (arith, small 0, small 1)) (onesSum≤65535 l (λ i. small (suc (suc i))))
+onesSum≤65535 l small = rw (onesSum≡reduced-groups l small) (reduced≤65535 (256 * groupSum l))
 
 onesPlus-assoc :
     (x y z : ℕ) → x ≤ 65535 → y ≤ 65535 → z ≤ 65535 → onesPlus x (onesPlus y z) ≡ onesPlus (onesPlus x y) z

@@ -3,7 +3,7 @@ use Prim.Native.Nat.{ℕ, _+_, _*_, _/_, _%_, _≤_, _<_}
 use mathlib.Core.Path.{_≡_}
 use native.Mathlib.Omega.{arith}
 use Rattle.checksum.specs.Sum.{onesPlus}
-use Rattle.checksum.specs.Groups.{fold, reduced}
+use Rattle.checksum.specs.Reduced.{fold, reduced}
 
 pub reduced≤65535 : (s : ℕ) → reduced s ≤ 65535
 unfolding reduced
@@ -17,7 +17,7 @@ pub reduced-add : (x y : ℕ) → reduced (x + reduced y) ≡ reduced (x + y)
 unfolding reduced
 reduced-add x y = omega arith
 
--- a multiple of 65,535 more changes nothing, but of 0
+-- a multiple of 65,535 more changes nothing of what is not 0; the premise says this without a case, as wide as a group needs it
 pub reduced-more : (x m : ℕ) → m ≤ 65537 * x → reduced (x + 65535 * m) ≡ reduced x
 unfolding reduced
 reduced-more x m h = omega arith

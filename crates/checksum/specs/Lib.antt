@@ -1,3 +1,4 @@
 pub mod Sum
 pub mod Parts
+pub mod Reduced
 pub mod Groups

@@ -1,4 +1,4 @@
--- Octets in two parts: where the first has whole words, their sum is the sum of the parts' sums. So octets that stand apart, such as a
+-- Octets in two parts: where the first has whole 16-bit words, their sum is the sum of the parts' sums. So octets that stand apart, such as a
 -- pseudo-header and a segment, can be summed where they stand.
 use Prim.Native.Nat.{ℕ, _%_}
 use mathlib.Core.Path.{_≡_}
@@ -12,7 +12,7 @@ SumOfParts =
     (first second : List ℕ) → Octets first → Octets second → length first % 2 ≡ 0 →
     onesSum (first ++ second) ≡ onesPlus (onesSum first) (onesSum second)
 
--- Whole words are needed: of two octets 01 each makes the word 0100 by itself, and both make 0101.
+-- Whole 16-bit words are needed: of two octets 01 each makes the word 0100 by itself, and both make 0101.
 abbrev pub WholeWordsNeeded : Type 0
 WholeWordsNeeded =
     (onesSum (1 ∷ 1 ∷ []) ≡ 0x0101)

@@ -20,7 +20,7 @@ use Rattle.entry.specs.Layout.{endBytes, marksBytes, flowBytes, numbersBytes, e
 use Rattle.table.specs.Table.{zerosAt, allFrom, headerClock, soundHeader, freeAt, soundAt, soundTable}
 use Rattle.filter.specs.Length.{legalLength, placesFor}
 use Rattle.filter.specs.Call.{outcomeOf}
-use Rattle.demands.specs.Packets.{fieldOctets, octetsIn, checksum, payloadOf, ipHeader, tcpHeader, pseudoHeader, packetOf}
+use Rattle.demands.specs.Packets.{fieldOctets, octetsIn, checksumOf, payloadOf, ipHeader, tcpHeader, pseudoHeader, packetOf}
 use Rattle.demands.specs.Example.{ExampleAnswers, ExamplePackets}
 
 pub example : ExampleAnswers
@@ -28,5 +28,5 @@ unfolding rows6to8 ipv4Header row10 rows9to10 onesPlus onesSum tabulate number d
 example = (refl, refl, refl)
 
 pub example-packets : ExamplePackets
-unfolding number digits octetsOf onesPlus onesSum fieldOctets octetsIn checksum payloadOf ipHeader tcpHeader pseudoHeader packetOf
+unfolding number digits octetsOf onesPlus onesSum fieldOctets octetsIn checksumOf payloadOf ipHeader tcpHeader pseudoHeader packetOf
 example-packets = (refl, refl, refl)

@@ -23,7 +23,7 @@ use Rattle.honest.proofs.Transfer.{made-carries, refused-carries, legal-carried
 use Rattle.honest.proofs.Witness.{witness-legal, witness-shows}
 use Rattle.demands.specs.Bytes.{BytesCall, SoundBytes, readingOf, ipv4Machine}
 use Rattle.demands.specs.Demands.{freshBytes}
-use Rattle.demands.specs.Packets.{fieldOctets, octetsIn, checksum, payloadOf, ipHeader, tcpHeader, pseudoHeader, packetOf, bytesCall}
+use Rattle.demands.specs.Packets.{fieldOctets, octetsIn, checksumOf, payloadOf, ipHeader, tcpHeader, pseudoHeader, packetOf, bytesCall}
 use Rattle.demands.specs.Witness.{madeWitness, wrongSum, fragment, bytesWitness}
 use Rattle.demands.proofs.Fresh.{fresh-bytes-sound, fresh-bytes-view}
 use Rattle.demands.proofs.Keeps.{ipv4-keeps}
@@ -54,7 +54,7 @@ all-read :
     (readings ipv4Machine madeWitness ≡ readings viewed witness)
     × (readingOf readIPv4 wrongSum ≡ refused 6)
     × (readingOf readIPv4 fragment ≡ refused 7)
-unfolding if_then_else_ wrap number digits bigEndian octetsOf overwrite onesPlus onesSum rows6to8 ipv4Header row10 rows9to10 readingOf fieldOctets octetsIn checksum payloadOf ipHeader tcpHeader pseudoHeader packetOf
+unfolding if_then_else_ wrap number digits bigEndian octetsOf overwrite onesPlus onesSum rows6to8 ipv4Header row10 rows9to10 readingOf fieldOctets octetsIn checksumOf payloadOf ipHeader tcpHeader pseudoHeader packetOf
 all-read = (refl, refl, refl)
 
 -- the two packets that are malformed

@@ -25,8 +25,8 @@ octetsIn [] = []
 octetsIn (f ∷ l) = fieldOctets f ++ octetsIn l
 
 -- the number with which the ones' complement sum is ffff
-unfoldable pub checksum : List Field → ℕ
-checksum l = 0xffff - onesSum (octetsIn l)
+unfoldable pub checksumOf : List Field → ℕ
+checksumOf l = 0xffff - onesSum (octetsIn l)
 
 module _ (a : Ask) where
   -- SYN and FIN count one each among the segment's octets
@@ -59,7 +59,7 @@ module _ (a : Ask) where
 
   -- each checksum is taken over its header with a zero in its place
   unfoldable pub packetOf : List ℕ
-  packetOf = octetsIn (ipHeader (checksum (ipHeader 0)) ++ tcpHeader (checksum (pseudoHeader ++ tcpHeader 0))) ++ replicate payloadOf 0
+  packetOf = octetsIn (ipHeader (checksumOf (ipHeader 0)) ++ tcpHeader (checksumOf (pseudoHeader ++ tcpHeader 0))) ++ replicate payloadOf 0
 
 -- It is made of octets
 

@@ -37,7 +37,7 @@ pub fn swapped16(w: u16) -> u16
 }
 
 // Four octets the other way round: one instruction again.
-fn swapped(w: u32) -> u32
+fn swapped32(w: u32) -> u32
     ensures { λ r. ⌜ r ≡ w % 256 * 16777216 + w / 256 % 256 * 65536 + w / 256 / 256 % 256 * 256 + w / 256 / 256 / 256 ⌝ }
 {
     w % 256 * 16777216 + w / 256 % 256 * 65536 + w / 256 / 256 % 256 * 256 + w / 256 / 256 / 256
@@ -47,7 +47,7 @@ pub fn read32(s: &[u8], at: usize) -> u32
     requires { ⌜ at + 4 ≤ length (now s) ⌝ }
     ensures { λ r. ⌜ r ≡ bigEndian 4 (now (s .entry)) at ⌝ }
 {
-    swapped(little32(s, at))
+    swapped32(little32(s, at))
 }
 
 pub fn read64(s: &[u8], at: usize) -> u64
@@ -82,7 +82,7 @@ pub fn write32(s: &mut [u8], at: usize, v: u32)
     requires { ⌜ at + 4 ≤ length (now s) ⌝ }
     ensures { λ r. ⌜ now (s .exit) ≡ overwrite (now (s .entry)) at (octetsOf 4 v) ⌝ }
 {
-    put_little32(s, at, swapped(v));
+    put_little32(s, at, swapped32(v));
 }
 
 pub fn write64(s: &mut [u8], at: usize, v: u64)

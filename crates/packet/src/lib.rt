@@ -1,7 +1,7 @@
 // Reads a packet with one TCP segment: answers 5 to 10 of document 01, or the flow and the segment. The IP version decides rows 5 to 8
 // and where the addresses stand; rows 9 and 10 are TCP's. There is a reader of IPv4.
 ghost use mathlib.Core.Path.{_≡_};
-ghost use Prim.Native.Nat.{_+_, _-_, _%_, _^_, _≤_, _<_};
+ghost use Prim.Native.Nat.{_+_, _-_, _^_, _≤_, _<_};
 ghost use lib.ListN.{length};
 ghost use Rattle.address.specs.Address.{addressSize};
 ghost use Rattle.segment.specs.Flags.{control};
@@ -167,7 +167,7 @@ fn read_tcp(version: Version, addresses: usize, s: &[u8], h: usize, t: usize) ->
 
 // Rows 6 to 8, for an IPv4 header of h bytes whose total length is t.
 fn check_ipv4_header(s: &[u8], h: usize, t: usize) -> IpRead
-    requires { ⌜ (20 ≤ h) × (h ≤ 60) × (h % 4 ≡ 0) × (h ≤ t) × (t ≤ length (now s)) × (t < 2 ^ 16) ⌝ }
+    requires { ⌜ (20 ≤ h) × (h ≤ 60) × (h ≤ t) × (t ≤ length (now s)) × (t < 2 ^ 16) ⌝ }
     ensures { λ r. ⌜ (r ≡ rows6to8 (now (s .entry)) h t) × Inside Version.V4 ipv4Addresses (now (s .entry)) r ⌝ }
 {
     if ones_sum(&s[0..h]) != 65535 {

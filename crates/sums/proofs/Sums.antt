@@ -7,10 +7,10 @@ use Rattle.choice.proofs.Choice.{if-<, if-<-not}
 use Rattle.checksum.specs.Sum.{onesSum}
 use Rattle.sums.specs.Sums.{sumOrNone}
 
-pub none-of-more : (l : List ℕ) → 65535 < length l → sumOrNone l ≡ 65536
+pub none-past : (l : List ℕ) → 65535 < length l → sumOrNone l ≡ 65536
 unfolding sumOrNone
-none-of-more l h = if-< {a = 65535} 65536 (onesSum l) h
+none-past l h = if-< {a = 65535} 65536 (onesSum l) h
 
-pub sum-of-rest : (l : List ℕ) → length l ≤ 65535 → sumOrNone l ≡ onesSum l
+pub sum-within : (l : List ℕ) → length l ≤ 65535 → sumOrNone l ≡ onesSum l
 unfolding sumOrNone
-sum-of-rest l h = if-<-not {a = 65535} 65536 (onesSum l) h
+sum-within l h = if-<-not {a = 65535} 65536 (onesSum l) h

@@ -2,7 +2,7 @@
 use Prim.Native.Nat.{_<_}
 use mathlib.Core.Path.{_≡_, ap, _∙_}
 use native.Mathlib.Omega.{arith}
-use Rattle.checksum.specs.Groups.{fold, reduced}
+use Rattle.checksum.specs.Reduced.{fold, reduced}
 use Rattle.checksum.proofs.Reduced.{reduced≤65535, reduced-fold, fold-below, fold≡reduced}
 use borrow.Author.Needs.{needs}
 use Rattle.checksum.proofs.carries_added.Statement.{statement}

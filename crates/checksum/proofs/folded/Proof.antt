@@ -1,5 +1,5 @@
 use native.Mathlib.Omega.{arith}
-use Rattle.checksum.specs.Groups.{fold}
+use Rattle.checksum.specs.Reduced.{fold}
 use borrow.Author.Needs.{needs}
 use Rattle.checksum.proofs.folded.Statement.{statement}
 use Rattle.checksum.proofs.folded.Tie as tie

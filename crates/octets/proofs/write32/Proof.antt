@@ -9,8 +9,8 @@ use borrow.Author.Needs.{needs}
 use Rattle.octets.proofs.write32.Statement.{statement}
 use Rattle.octets.proofs.write32.Tie as tie
 
-swapped-requires : tie.Need-swapped-requires
-swapped-requires c κs = search needs
+swapped32-requires : tie.Need-swapped32-requires
+swapped32-requires c κs = search needs
 
 put-little32-requires : tie.Need-put-little32-requires
 put-little32-requires c κs = search needs
@@ -22,7 +22,7 @@ returns : tie.Need-returns
 returns c =
     let k = c .before .before in
     let a = k .before .before .before .before .args in
-    k .put-little32 .ensures ∙ ap (λ (l : List ℕ). overwrite (a .s .now) (a .at) l) (littleOctets-swapped (a .v) _ (omega arith) (k .before .swapped .ensures))
+    k .put-little32 .ensures ∙ ap (λ (l : List ℕ). overwrite (a .s .now) (a .at) l) (littleOctets-swapped (a .v) _ (omega arith) (k .before .swapped32 .ensures))
 
 pub write32-spec : {M : Type 1} → statement M
-write32-spec = tie.close (tie.spec swapped-requires put-little32-requires same-length returns)
+write32-spec = tie.close (tie.spec swapped32-requires put-little32-requires same-length returns)

@@ -1,16 +1,16 @@
 -- Two rounds add every carry in, where there are few enough octets.
 use mathlib.Core.Path.{sym, _∙_}
 use native.Mathlib.Omega.{arith}
-use Rattle.checksum.specs.Groups.{fold}
+use Rattle.checksum.specs.Reduced.{fold}
 use Rattle.checksum.proofs.Reduced.{reduced-fold, fold≡reduced}
-use Rattle.sums.proofs.Words.{onesSum≡reduced-words}
-use Rattle.sums.proofs.Sums.{none-of-more, sum-of-rest}
+use Rattle.sums.proofs.WordSum.{onesSum≡reduced-words}
+use Rattle.sums.proofs.Sums.{none-past, sum-within}
 use borrow.Author.Needs.{needs}
 use Rattle.sums.proofs.sum_by_words.Statement.{statement}
 use Rattle.sums.proofs.sum_by_words.Tie as tie
 
 returns : tie.Need-returns
-returns c = sym (none-of-more (c .before .before .args .s .now) (c .if1 .taken))
+returns c = sym (none-past (c .before .before .args .s .now) (c .if1 .taken))
 
 word-sum-requires : tie.Need-word-sum-requires
 word-sum-requires c κs = search needs
@@ -30,7 +30,7 @@ returns-2 c =
     fold≡reduced (fold sum) (omega arith)
     ∙ reduced-fold sum
     ∙ rw (c .word-sum .ensures .0) (sym (onesSum≡reduced-words s λ i. k .shared-slice-known .given i .fits))
-    ∙ sym (sum-of-rest s (c .before .if1 .left))
+    ∙ sym (sum-within s (c .before .if1 .left))
 
 pub sum-by-words-spec : {M : Type 1} → statement M
 sum-by-words-spec = tie.close (tie.spec returns word-sum-requires add-once add-result returns-2)

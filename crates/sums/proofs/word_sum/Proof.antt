@@ -5,7 +5,7 @@ use native.Mathlib.Omega.{arith}
 use lib.ListN.{length, getD, drop, List·getD-eq-default}
 use Rattle.octets.proofs.BigEndian.{bigEndian-2}
 use Rattle.sums.specs.Sums.{wordSum}
-use Rattle.sums.proofs.Words.{wordSum-drop, wordSum-past}
+use Rattle.sums.proofs.WordSum.{wordSum-drop, wordSum-past}
 use Rattle.sums.proofs.word_sum.Statement.{statement}
 use Rattle.sums.proofs.word_sum.Tie as tie
 

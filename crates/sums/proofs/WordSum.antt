@@ -10,7 +10,7 @@ use Rattle.octets.specs.Octets.{Octets}
 use Rattle.octets.specs.BigEndian.{bigEndian}
 use Rattle.octets.proofs.BigEndian.{bigEndian-2}
 use Rattle.checksum.specs.Sum.{onesSum}
-use Rattle.checksum.specs.Groups.{reduced}
+use Rattle.checksum.specs.Reduced.{reduced}
 use Rattle.checksum.proofs.Reduced.{reduced≤65535, onesPlus≡reduced, reduced-add}
 use Rattle.sums.specs.Sums.{wordSum}
 
