@@ -7,7 +7,7 @@ use Rattle.octets.specs.Octets.{Octets}
 use Rattle.checksum.specs.Sum.{onesPlus, onesSum}
 use Rattle.checksum.specs.Groups.{groupSum}
 use Rattle.checksum.specs.Reduced.{reduced}
-use Rattle.checksum.specs.Parts.{SumOfParts, WholeWordsNeeded}
+use Rattle.checksum.specs.Parts.{SumOfParts, WholeWordsNeeded, OctetsNeeded}
 use Rattle.checksum.proofs.Reduced.{reduced≤65535, onesPlus≡reduced, reduced-add}
 use Rattle.checksum.proofs.Groups.{onesSum≡reduced-groups}
 
@@ -41,3 +41,7 @@ sum-of-parts (a ∷ b ∷ l) second one two whole =
 pub whole-words-needed : WholeWordsNeeded
 unfolding onesSum onesPlus
 whole-words-needed = (refl, refl)
+
+pub octets-needed : OctetsNeeded
+unfolding onesSum onesPlus
+octets-needed = (refl, refl, refl, refl)

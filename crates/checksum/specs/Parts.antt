@@ -12,8 +12,16 @@ SumOfParts =
     (first second : List ℕ) → Octets first → Octets second → length first % 2 ≡ 0 →
     onesSum (first ++ second) ≡ onesPlus (onesSum first) (onesSum second)
 
--- Whole 16-bit words are needed: of two octets 01 each makes the word 0100 by itself, and both make 0101.
+-- Each premise is needed. Whole 16-bit words: of two octets 01 each makes the word 0100 by itself, and both make 0101.
 abbrev pub WholeWordsNeeded : Type 0
 WholeWordsNeeded =
     (onesSum (1 ∷ 1 ∷ []) ≡ 0x0101)
     × (onesPlus (onesSum (1 ∷ [])) (onesSum (1 ∷ [])) ≡ 0x0200)
+
+-- Octets, in the first part and in the second: a 256 makes a word of 17 bits, and one addition leaves a carry of it.
+abbrev pub OctetsNeeded : Type 0
+OctetsNeeded =
+    (onesSum (256 ∷ 0 ∷ 255 ∷ 255 ∷ []) ≡ 0x10000)
+    × (onesPlus (onesSum (256 ∷ 0 ∷ [])) (onesSum (255 ∷ 255 ∷ [])) ≡ 0x0001)
+    × (onesSum (256 ∷ []) ≡ 0x10000)
+    × (onesPlus (onesSum []) (onesSum (256 ∷ [])) ≡ 0x0001)

@@ -1,8 +1,8 @@
 // The ones' complement sum of octets (RFC 1071) by 32-bit groups, added into 64 bits, the carries at the end. Swapping the octets
 // of every word swaps those of the sum (RFC 1071, section 2), so groups are read as one load gives them, and the sum is swapped at the end.
 ghost use mathlib.Core.Path.{_≡_};
-ghost use Prim.Native.Nat.{_+_, _^_, _≤_, _<_};
-ghost use lib.ListN.{length};
+ghost use Prim.Native.Nat.{_+_, _*_, _^_, _≤_, _<_};
+ghost use lib.ListN.{length, getD};
 ghost use Rattle.octets.specs.LittleEndian.{littleEndian};
 ghost use Rattle.checksum.specs.Sum.{onesSum};
 ghost use Rattle.checksum.specs.Groups.{groupSum};
@@ -10,6 +10,14 @@ ghost use Rattle.checksum.specs.Reduced.{fold, reduced};
 use octets::little32;
 use octets::swapped16;
 use octets::wide;
+
+// Two octets, the first the lowest.
+fn little16(s: &[u8], at: usize) -> u32
+    requires { ⌜ at + 2 ≤ length (now s) ⌝ }
+    ensures { λ r. ⌜ (r ≡ getD (now (s .entry)) at 0 + getD (now (s .entry)) (at + 1) 0 * 256) × (r < 2 ^ 16) ⌝ }
+{
+    wide(s[at]) + wide(s[at + 1]) * 256
+}
 
 // The last group, of which there are 0 to 3 octets; what is missing is zero.
 fn last_group(s: &[u8], at: usize) -> u32
@@ -20,8 +28,8 @@ fn last_group(s: &[u8], at: usize) -> u32
     match left {
         0 => 0,
         1 => wide(s[at]),
-        2 => wide(s[at]) + wide(s[at + 1]) * 256,
-        _ => wide(s[at]) + wide(s[at + 1]) * 256 + wide(s[at + 2]) * 65536,
+        2 => little16(s, at),
+        _ => little16(s, at) + wide(s[at + 2]) * 65536,
     }
 }
 

@@ -20,20 +20,20 @@ shared-slice-read-wide c = search needs
 wide-requires : tie.Need-wide-requires
 wide-requires c κs = search needs
 
+little16-requires : tie.Need-little16-requires
+little16-requires c κs = search needs
+
+little16-requires-2 : tie.Need-little16-requires-2
+little16-requires-2 c κs = search needs
+
+add-wide : tie.Need-add-wide
+add-wide c = search needs
+
 shared-slice-read-wide-2 : tie.Need-shared-slice-read-wide-2
 shared-slice-read-wide-2 c = search needs
 
 wide-requires-2 : tie.Need-wide-requires-2
 wide-requires-2 c κs = search needs
-
-add-wide : tie.Need-add-wide
-add-wide c = search needs
-
-shared-slice-read-wide-3 : tie.Need-shared-slice-read-wide-3
-shared-slice-read-wide-3 c = search needs
-
-wide-requires-3 : tie.Need-wide-requires-3
-wide-requires-3 c κs = search needs
 
 mul-result : tie.Need-mul-result
 mul-result c = search needs
@@ -41,66 +41,31 @@ mul-result c = search needs
 add-result : tie.Need-add-result
 add-result c = search needs
 
-shared-slice-read-wide-4 : tie.Need-shared-slice-read-wide-4
-shared-slice-read-wide-4 c = search needs
-
-wide-requires-4 : tie.Need-wide-requires-4
-wide-requires-4 c κs = search needs
-
-add-wide-2 : tie.Need-add-wide-2
-add-wide-2 c = search needs
-
-shared-slice-read-wide-5 : tie.Need-shared-slice-read-wide-5
-shared-slice-read-wide-5 c = search needs
-
-wide-requires-5 : tie.Need-wide-requires-5
-wide-requires-5 c κs = search needs
-
-mul-result-2 : tie.Need-mul-result-2
-mul-result-2 c = search needs
-
-add-result-2 : tie.Need-add-result-2
-add-result-2 c = search needs
-
-add-wide-3 : tie.Need-add-wide-3
-add-wide-3 c = search needs
-
-shared-slice-read-wide-6 : tie.Need-shared-slice-read-wide-6
-shared-slice-read-wide-6 c = search needs
-
-wide-requires-6 : tie.Need-wide-requires-6
-wide-requires-6 c κs = search needs
-
-mul-result-3 : tie.Need-mul-result-3
-mul-result-3 c = search needs
-
-add-result-3 : tie.Need-add-result-3
-add-result-3 c = search needs
-
 returns : tie.Need-returns
 returns c =
-    let s = c .before .before .args .s .now in
-    let at = c .before .before .args .at in
+    let a = c .before .before .args in
+    let s = a .s .now in
+    let at = a .at in
     (omega (arith, none s at (omega arith), none s (at + 1) (omega arith), none s (at + 2) (omega arith), none s (at + 3) (omega arith)), omega arith)
 
 returns-2 : tie.Need-returns-2
 returns-2 c =
-    let k = c .before .before .before .before in
-    let s = k .args .s .now in
-    let at = k .args .at in
+    let a = c .before .before .before .before .args in
+    let s = a .s .now in
+    let at = a .at in
     (omega (arith, none s (at + 1) (omega arith), none s (at + 2) (omega arith), none s (at + 3) (omega arith)), omega arith)
 
 returns-3 : tie.Need-returns-3
 returns-3 c =
-    let k = c .before .before .before .before .before .before in
-    let s = k .args .s .now in
-    let at = k .args .at in
+    let a = c .before .before .before .args in
+    let s = a .s .now in
+    let at = a .at in
     (omega (arith, none s (at + 2) (omega arith), none s (at + 3) (omega arith)), omega arith)
 
 returns-4 : tie.Need-returns-4
 returns-4 c =
-    let k = c .before .before .before .before .before .before .before .before in
-    (omega (arith, none (k .args .s .now) (k .args .at + 3) (omega arith)), omega arith)
+    let a = c .before .before .before .before .before .args in
+    (omega (arith, none (a .s .now) (a .at + 3) (omega arith)), omega arith)
 
 pub last-group-spec : {M : Type 1} → statement M
 last-group-spec =
@@ -109,25 +74,13 @@ last-group-spec =
     sub-left
     shared-slice-read-wide
     wide-requires
+    little16-requires
+    little16-requires-2
+    add-wide
     shared-slice-read-wide-2
     wide-requires-2
-    add-wide
-    shared-slice-read-wide-3
-    wide-requires-3
     mul-result
     add-result
-    shared-slice-read-wide-4
-    wide-requires-4
-    add-wide-2
-    shared-slice-read-wide-5
-    wide-requires-5
-    mul-result-2
-    add-result-2
-    add-wide-3
-    shared-slice-read-wide-6
-    wide-requires-6
-    mul-result-3
-    add-result-3
     returns
     returns-2
     returns-3
