@@ -38,7 +38,7 @@ module _ (v : Version) (read : List ℕ → PacketRead) (reader : ReaderOf v rea
 
 pub demands-of-every-version : DemandsOfEveryVersion
 demands-of-every-version v read reader = record {
-  demand1 = demand1-on-bytes v read;
+  demand1 = demand1-on-bytes v read reader;
   demand2 = demand2-on-bytes v read reader;
   demand3 = demand3-on-bytes v read reader;
   demand3-from-sound = demand3-from-sound v read reader;

@@ -35,7 +35,7 @@ use Rattle.demands.proofs.Reading.{Brought, never-apart, asks-brought, 
 
 -- every answer but a pass changes no byte
 blocked-keeps : (v : Version) (t : List ℕ) (o : Outcome connections) → (replyOf o .answer ≡ 0 → ⊥) → tableAfter v t o ≡ t
-blocked-keeps v t (Blocked n) blocked = refl
+blocked-keeps v t (Blocked n place) blocked = refl
 blocked-keeps v t (Passed p now e) blocked = absurd (blocked refl)
 
 -- What a call that a packet brings leaves of a sound table
@@ -58,11 +58,11 @@ module _ (v : Version) (t : List ℕ) (a : Ask) (s : SoundBytes v t) (brought : 
         ⊎-elim (λ free. rw free (storable-free v)) (λ sound. storable-entry v now (stored e) sound now-small (left .sound .two-ended) fits) entry-sound
 
   left-view : (o : Outcome connections) → LeftBy (tableOf v t) a o → tableOf v (tableAfter v t o) ≡ after connections (tableOf v t) o
-  left-view (Blocked n) left = refl
+  left-view (Blocked n place) left = refl
   left-view (Passed p now e) left = view-after v t p now e (left .inside) (now-small p now e left) (entry-storable p now e left)
 
   left-sound : (o : Outcome connections) → LeftBy (tableOf v t) a o → SoundBytes v (tableAfter v t o)
-  left-sound (Blocked n) left = s
+  left-sound (Blocked n place) left = s
   left-sound (Passed p now e) left =
       let later : headerClock t ≤ now = omega (arith, left .clock) in
       sound-after v t p now (stored e) s (left .inside) (now-small p now e left) later (entry-storable p now e left) (entry-sound p now e left)
@@ -102,15 +102,15 @@ module _ (v : Version) (read : List ℕ → PacketRead) (reader : ReaderOf v rea
   sound-kept t q s = go (readingOf read q) refl
     where
       go : (r : Reading Ask) → readingOf read q ≡ r → SoundBytes v (tableAfter v t (called v read t q))
-      go (refused n) is = rw (refused-outcome v read q t s n is) s
+      go (refused n place) is = rw (refused-outcome v read q t s n place is) s
       go (asks a) is = asks-sound t q a s is
       go apart is = absurd (never-apart v read reader q is)
 
   pub bytes-keep : KeepsTo (bytesMachine v read) (SoundBytes v)
   bytes-keep = record {
-    refusal-answered = λ t q n s is. ap (λ o. replyOf o .answer) (refused-outcome v read q t s n is);
-    refusal-placed = λ t q n s is. ap (λ o. replyOf o .place) (refused-outcome v read q t s n is);
-    refusal-blocks = λ q n is zero. omega (arith, refused-holds v read reader q n is);
+    refusal-answered = λ t q n place s is. ap (λ o. replyOf o .answer) (refused-outcome v read q t s n place is);
+    refusal-placed = λ t q n place s is. ap (λ o. replyOf o .place) (refused-outcome v read q t s n place is);
+    refusal-blocks = λ q n place is zero. omega (arith, refused-holds v read reader q n place is);
     answer-by-rows = λ t q a s is. ap (λ o. replyOf o .answer) (asks-outcome v read q t s a is);
     place-by-rows = λ t q a s is. ap (λ o. replyOf o .place) (asks-outcome v read q t s a is);
     view-by-rows = asks-left;

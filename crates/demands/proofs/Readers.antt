@@ -1,6 +1,7 @@
 -- What is asked of a reader is needed, by one call on a fresh table of one place.
-use Prim.Native.Nat.{ℕ, _^_}
+use Prim.Native.Nat.{ℕ, _^_, _<_}
 use mathlib.Core.Path.{_≡_, refl, sym, ap, _∙_}
+use mathlib.Core.Logic.{⊎-elim}
 use mathlib.Core.Bool.{false}
 use mathlib.Core.List.{List, [], _∷_}
 use native.Mathlib.Omega.{arith}
@@ -13,6 +14,8 @@ use Rattle.octets.specs.BigEndian.{bigEndian, octetsOf}
 use Rattle.octets.proofs.Octets.{bytes-[]}
 use Rattle.address.specs.Flows.{sameFlow}
 use Rattle.address.specs.declared.Version.the-variants.{V4}
+use Rattle.packet.specs.Reader.{PointsInto}
+use Rattle.packet.specs.declared.Cause.{Cause}
 use Rattle.packet.specs.declared.PacketRead.{PacketRead}
 use Rattle.connection.specs.Decision.{opened}
 use Rattle.connection.specs.Sound.{soundFins, soundEnd, soundUnanswered, soundConnection}
@@ -23,12 +26,13 @@ use Rattle.rows.specs.Connections.{connections}
 use Rattle.entry.specs.Layout.{endBytes, marksBytes, flowBytes, numbersBytes, entryBytes, connectionAt, entryAt, placeAt}
 use Rattle.table.specs.Table.{zerosAt, allFrom, headerClock, soundHeader, freeAt, soundAt, soundTable}
 use Rattle.filter.specs.Length.{legalLength, placesFor}
-use Rattle.filter.specs.Call.{placesIn, tableOf, outcomeOf}
+use Rattle.filter.specs.Call.{placesIn, tableOf, outcomeOf, replyOf}
+use Rattle.filter.specs.declared.Reply.{Reply}
 use Rattle.honest.specs.Histories.{histories, inNumbers}
 use Rattle.honest.specs.Demand2.{viewAfter, asked, stateAfter}
 use Rattle.demands.specs.Bytes.{BytesCall, readingOf, bytesMachine}
 use Rattle.demands.specs.Demands.{freshBytes}
-use Rattle.demands.specs.Readers.{wideWindow, wideAddress, ReaderNeeded}
+use Rattle.demands.specs.Readers.{wideWindow, wideAddress, pastPacket, ReaderNeeded}
 
 -- any call
 abbrev one : BytesCall
@@ -51,10 +55,25 @@ whole : firstAddress (inNumbers (viewAfter histories 1 (asked (bytesMachine V4 w
 unfolding viewAfter asked readingOf firstFrom fromOpener fromAnswerer liveMatch vacant openingEntry unmatched onSegment sameFlow if_then_else_
 whole = refl
 
+-- what the third answers
+abbrev refusal : Reply
+refusal = replyOf (outcomeOf V4 0 0 (freshBytes V4 1) (pastPacket []))
+
+refusal-is : (refusal .answer ≡ 5) × (refusal .place ≡ 1)
+unfolding tabulate number overwrite bigEndian placeAt zerosAt allFrom headerClock soundHeader freeAt soundAt soundTable legalLength placesFor outcomeOf connectionAt entryAt soundFins soundEnd soundUnanswered soundConnection if_then_else_
+refusal-is = (refl, refl)
+
+no-byte-at-1 : (cause : Cause) (offset : ℕ) → offset ≡ 1 → PointsInto [] cause offset → ⊥
+no-byte-at-1 cause offset is into = ⊎-elim (λ (inside : offset < 0). omega arith) (λ behind. omega (arith, behind .1)) (into .given)
+
 pub reader-needed : ReaderNeeded
 reader-needed = (
   (λ d. false-true (sym (left-is .0) ∙ d .demand2 1 (omega arith) (omega arith) (one ∷ []) .2 .sound)),
   (λ d.
       let same = d .demand2 1 (omega arith) (omega arith) (one ∷ []) .1 .table in
       absurd (omega (arith, sym (left-is .1) ∙ ap firstAddress same ∙ whole))),
+  (λ d.
+      let five = refusal-is .0 in
+      let broken = d .demand1 0 0 (freshBytes V4 1) [] .broken-place (omega (arith, five)) (omega (arith, five)) in
+      no-byte-at-1 (broken .cause) (refusal .place) (refusal-is .1) (broken .points)),
 )

@@ -14,7 +14,7 @@ use Rattle.packet.specs.Reader.{ReaderOf}
 use Rattle.packet.specs.declared.PacketRead.{PacketRead}
 use Rattle.packet.specs.declared.PacketRead.the-variants.{Refused, Tcp}
 use Rattle.packet.proofs.Causes.{cause-5-to-10}
-use Rattle.rows.specs.Rows.{Ask, View, Blocked, filter}
+use Rattle.rows.specs.Rows.{Ask, View, Blocked, nowhere, filter}
 use Rattle.rows.specs.Connections.{connections}
 use Rattle.filter.specs.Call.{Outcome, tableOf, rows5to10, askOf, outcomeOf}
 use Rattle.honest.specs.Machine.{Reading, refused, asks, apart}
@@ -26,8 +26,8 @@ asked q r = rows5to10 refused r (λ k g. asks (askOf (q .side) (q .clock) k g))
 
 -- on a sound table rows 3 and 4 say nothing
 readingOf≡rows : (read : List ℕ → PacketRead) (q : BytesCall) → readingOf read q ≡
-    (if not (q .side ≤ᵇ 1) then refused 1
-    else if 2 ^ 48 ≤ᵇ q .clock then refused 2
+    (if not (q .side ≤ᵇ 1) then refused 1 nowhere
+    else if 2 ^ 48 ≤ᵇ q .clock then refused 2 nowhere
     else asked q (read (q .packet)))
 unfolding readingOf
 readingOf≡rows read q = if-else _ _ (if-else _ _ (if-false _ _ _ refl ∙ if-false _ _ _ refl))
@@ -35,16 +35,16 @@ readingOf≡rows read q = if-else _ _ (if-else _ _ (if-false _ _ _ refl ∙ if-f
 -- On a sound table the call comes to its reading
 
 abbrev onReading : View connections → Reading Ask → Outcome
-onReading w (refused n) = Blocked n
+onReading w (refused n place) = Blocked n place
 onReading w (asks a) = filter connections w a
-onReading w apart = Blocked 0
+onReading w apart = Blocked 0 nowhere
 
 module _ (v : Version) (read : List ℕ → PacketRead) (q : BytesCall) (t : List ℕ) (s : SoundBytes v t) where
   by-packet :
       (r : PacketRead) →
       rows5to10 Blocked r (λ k g. filter connections (tableOf v t) (askOf (q .side) (q .clock) k g))
       ≡ onReading (tableOf v t) (asked q r)
-  by-packet (Refused cause) = refl
+  by-packet (Refused cause offset) = refl
   by-packet (Tcp k g) = refl
 
   outcome-read : called v read t q ≡ onReading (tableOf v t) (readingOf read q)
@@ -57,8 +57,8 @@ module _ (v : Version) (read : List ℕ → PacketRead) (q : BytesCall) (t : Lis
   pub asks-outcome : (a : Ask) → readingOf read q ≡ asks a → called v read t q ≡ filter connections (tableOf v t) a
   asks-outcome a is = outcome-read ∙ ap (onReading (tableOf v t)) is
 
-  pub refused-outcome : (n : ℕ) → readingOf read q ≡ refused n → called v read t q ≡ Blocked n
-  refused-outcome n is = outcome-read ∙ ap (onReading (tableOf v t)) is
+  pub refused-outcome : (n place : ℕ) → readingOf read q ≡ refused n place → called v read t q ≡ Blocked n place
+  refused-outcome n place is = outcome-read ∙ ap (onReading (tableOf v t)) is
 
 -- What a reading holds
 
@@ -71,13 +71,13 @@ pub record Brought (v : Version) (a : Ask) : Type 0 where
 
 -- no call concerns another part of the table: the whole is viewed
 abbrev Holds : Version → Reading Ask → Type 0
-Holds v (refused n) = 1 ≤ n
+Holds v (refused n place) = 1 ≤ n
 Holds v (asks a) = Brought v a
 Holds v apart = ⊥
 
 module _ (v : Version) (read : List ℕ → PacketRead) (reader : ReaderOf v read) (q : BytesCall) where
   packet-holds : q .side ≤ 1 → q .clock < 2 ^ 48 → (r : PacketRead) → read (q .packet) ≡ r → Holds v (asked q r)
-  packet-holds side clock (Refused cause) is = omega (arith, cause-5-to-10 cause .0)
+  packet-holds side clock (Refused cause offset) is = omega (arith, cause-5-to-10 cause .0)
   packet-holds side clock (Tcp k g) is = record {
     side = side;
     clock = clock;
@@ -98,5 +98,5 @@ module _ (v : Version) (read : List ℕ → PacketRead) (reader : ReaderOf v rea
   pub asks-brought : (a : Ask) → readingOf read q ≡ asks a → Brought v a
   asks-brought a is = rw is at reading-holds
 
-  pub refused-holds : (n : ℕ) → readingOf read q ≡ refused n → 1 ≤ n
-  refused-holds n is = rw is at reading-holds
+  pub refused-holds : (n place : ℕ) → readingOf read q ≡ refused n place → 1 ≤ n
+  refused-holds n place is = rw is at reading-holds

@@ -52,19 +52,19 @@ module _
 
 all-read :
     (readings ipv4Machine madeWitness ≡ readings viewed witness)
-    × (readingOf readIPv4 wrongSum ≡ refused 6)
-    × (readingOf readIPv4 fragment ≡ refused 7)
+    × (readingOf readIPv4 wrongSum ≡ refused 6 10)
+    × (readingOf readIPv4 fragment ≡ refused 7 6)
 unfolding if_then_else_ wrap number digits bigEndian octetsOf overwrite onesPlus onesSum rows6to8 ipv4Header row10 rows9to10 readingOf fieldOctets octetsIn checksumOf payloadOf ipHeader tcpHeader pseudoHeader packetOf
 all-read = (refl, refl, refl)
 
 -- the two packets that are malformed
-pub bytes-witness-refuses : (readingOf readIPv4 wrongSum ≡ refused 6) × (readingOf readIPv4 fragment ≡ refused 7)
+pub bytes-witness-refuses : (readingOf readIPv4 wrongSum ≡ refused 6 10) × (readingOf readIPv4 fragment ≡ refused 7 6)
 bytes-witness-refuses = (all-read .1, all-read .2)
 
 witness-carried : Carries ipv4Machine bytesWitness witness
 witness-carried =
-    refused-carries ipv4Machine 40 fragment 7 (bytes-witness-refuses .1)
-    (refused-carries ipv4Machine 48 wrongSum 6 (bytes-witness-refuses .0)
+    refused-carries ipv4Machine 40 fragment 7 6 (bytes-witness-refuses .1)
+    (refused-carries ipv4Machine 48 wrongSum 6 10 (bytes-witness-refuses .0)
     (made-carries ipv4Machine (λ b. bytesCall (b .0)) witness (all-read .0)))
 
 pub bytes-witness-legal : Legal ipv4Machine (freshBytes V4 64) pair bytesWitness

@@ -12,7 +12,7 @@ use Rattle.choice.proofs.Tests.{&&-true, between-true}
 use Rattle.address.specs.declared.Version.{Version}
 use Rattle.address.specs.declared.Version.the-variants.{V4, V6}
 use Rattle.packet.specs.declared.PacketRead.{PacketRead}
-use Rattle.rows.specs.Rows.{Blocked, onSegment}
+use Rattle.rows.specs.Rows.{Blocked, nowhere, onSegment}
 use Rattle.rows.specs.Connections.{connections}
 use Rattle.entry.specs.Layout.{headerSize, entrySize, placeAt}
 use Rattle.entry.proofs.Places.{next-place}
@@ -95,13 +95,13 @@ sound-table-clock v t n e = header-clock-under v t (&&-true (soundHeader v t) _ 
 
 -- the list by its number, whatever it gives
 by-number :
-    {A : Type 0} (refuse : ℕ → A) (side clock : ℕ) (legal sound : Bool) (next : A) →
-    let n = rows1to4 (λ m. m) side clock legal sound 0 in
-    rows1to4 refuse side clock legal sound next ≡ (if n =ᵇ 0 then next else refuse n)
+    {A : Type 0} (refuse : (answer place : ℕ) → A) (side clock : ℕ) (legal sound : Bool) (next : A) →
+    let n = rows1to4 (λ m place. m) side clock legal sound 0 in
+    rows1to4 refuse side clock legal sound next ≡ (if n =ᵇ 0 then next else refuse n nowhere)
 by-number {A} refuse side clock legal sound next =
-    let f : ℕ → A = λ n. if n =ᵇ 0 then next else refuse n in
-    let row : (n : ℕ) → refuse (suc n) ≡ f (suc n) = λ n. sym (if-=-not _ _ (λ (e : suc n ≡ 0). omega (arith, e))) in
-    let last : next ≡ f 0 = sym (if-true (0 =ᵇ 0) next (refuse 0) refl) in
+    let f : ℕ → A = λ n. if n =ᵇ 0 then next else refuse n nowhere in
+    let row : (n : ℕ) → refuse (suc n) nowhere ≡ f (suc n) = λ n. sym (if-=-not _ _ (λ (e : suc n ≡ 0). omega (arith, e))) in
+    let last : next ≡ f 0 = sym (if-true (0 =ᵇ 0) next (refuse 0 nowhere) refl) in
     (λ i. if not (side ≤ᵇ 1) then row 0 i
     else if 2 ^ 48 ≤ᵇ clock then row 1 i
     else if not legal then row 2 i
@@ -130,13 +130,13 @@ module _ (v : Version) (side clock : ℕ) (t : List ℕ) where
   by-refusal :
       (read : PacketRead) →
       outcomeOf v side clock t read
-      ≡ (if tableRefusal v side clock t =ᵇ 0 then after read else Blocked (tableRefusal v side clock t))
+      ≡ (if tableRefusal v side clock t =ᵇ 0 then after read else Blocked (tableRefusal v side clock t) nowhere)
   unfolding outcomeOf tableRefusal
   by-refusal read = by-number Blocked side clock (legalLength v (length t)) (soundTable v t (placesIn v t)) (after read)
 
   pub refused-by-number :
       (read : PacketRead) → (tableRefusal v side clock t ≡ 0 → ⊥) →
-      outcomeOf v side clock t read ≡ Blocked (tableRefusal v side clock t)
+      outcomeOf v side clock t read ≡ Blocked (tableRefusal v side clock t) nowhere
   refused-by-number read some = by-refusal read ∙ if-=-not _ _ some
 
   module _ (none : tableRefusal v side clock t ≡ 0) where

@@ -14,7 +14,7 @@ use Rattle.packet.specs.Read.{readIPv4, causeNumber}
 use Rattle.packet.specs.declared.PacketRead.{PacketRead}
 use Rattle.packet.specs.declared.PacketRead.the-variants.{Refused, Tcp}
 use Rattle.rows.specs.Rows as rows
-use Rattle.rows.specs.Rows.{Ask, View, Blocked, Passed, answerOf, placeBy}
+use Rattle.rows.specs.Rows.{Ask, View, Blocked, Passed, nowhere, answerOf, placeBy}
 use Rattle.rows.specs.Connections.{connections}
 use Rattle.entry.specs.Layout.{placeAt, entryBytes}
 use Rattle.entry.specs.Viewed.{stored}
@@ -38,23 +38,23 @@ tableOf v t = viewOf v t (placesIn v t)
 
 -- The list, top to bottom: the first line that applies wins. Each row is said once, whatever a refusal gives and whatever `next` follows
 
-module _ {A : Type 0} (refuse : ℕ → A) where
+module _ {A : Type 0} (refuse : (answer place : ℕ) → A) where
   -- over whether the table's length is legal and its bytes are sound
   abbrev pub rows1to4 : ℕ → ℕ → Bool → Bool → A → A
   rows1to4 side clock legal sound next =
       -- 1: side is not 0 or 1
-      if not (side ≤ᵇ 1) then refuse 1
+      if not (side ≤ᵇ 1) then refuse 1 nowhere
       -- 2: clock is 2^48 ms or more
-      else if 2 ^ 48 ≤ᵇ clock then refuse 2
+      else if 2 ^ 48 ≤ᵇ clock then refuse 2 nowhere
       -- 3: table length is not 64·(n+1), in an IPv6 table 64 + 96·n, with n from 1 to 512
-      else if not legal then refuse 3
+      else if not legal then refuse 3 nowhere
       -- 4: table is unsound
-      else if not sound then refuse 4
+      else if not sound then refuse 4 nowhere
       else next
 
-  -- 5 to 10, as the version's reader has them
+  -- 5 to 10, as the version's reader has them; the place is the offset of the cause (document 02, item 2)
   abbrev pub rows5to10 : PacketRead → (Flow → Segment → A) → A
-  rows5to10 (Refused cause) next = refuse (causeNumber cause)
+  rows5to10 (Refused cause offset) next = refuse (causeNumber cause) offset
   rows5to10 (Tcp k g) next = next k g
 
 -- a packet's flow and segment, with its side and clock, as rows 11 to 15 and 0 are asked
@@ -84,5 +84,5 @@ withEntry v t p now e = overwrite (overwrite t clockAt (octetsOf 8 now)) (placeA
 
 -- a pass changes only the header clock and that entry; every other answer changes no byte
 abbrev pub tableAfter : Version → List ℕ → Outcome → List ℕ
-tableAfter v t (Blocked n) = t
+tableAfter v t (Blocked n place) = t
 tableAfter v t (Passed p now e) = withEntry v t p now (stored e)

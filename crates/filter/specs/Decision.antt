@@ -5,7 +5,7 @@ use mathlib.Core.List.{List}
 use lib.ListN.{length}
 use Rattle.choice.specs.Choice.{if_then_else_, _=ᵇ_}
 use Rattle.address.specs.declared.Version.{Version}
-use Rattle.rows.specs.Rows.{Blocked, Passed, freeEntry, nowhere}
+use Rattle.rows.specs.Rows.{Blocked, Passed, freeEntry}
 use Rattle.rows.specs.Connections.{connections}
 use Rattle.entry.specs.Layout.{entrySize, placeAt}
 use Rattle.entry.specs.Viewed.{stored}
@@ -16,10 +16,10 @@ use Rattle.filter.specs.declared.Decision.{Decision}
 
 -- the number that rows 1 to 4 refuse with; 0 where they don't
 unfoldable pub tableRefusal : Version → ℕ → ℕ → List ℕ → ℕ
-tableRefusal v side clock t = rows1to4 (λ n. n) side clock (legalLength v (length t)) (soundTable v t (placesIn v t)) 0
+tableRefusal v side clock t = rows1to4 (λ n place. n) side clock (legalLength v (length t)) (soundTable v t (placesIn v t)) 0
 
 abbrev pub decisionOf : Outcome → Decision
-decisionOf (Blocked n) = record { answer = n; place = nowhere; clock = 0; entry = stored (freeEntry connections) }
+decisionOf (Blocked n place) = record { answer = n; place = place; clock = 0; entry = stored (freeEntry connections) }
 decisionOf (Passed p now e) = record { answer = 0; place = p; clock = now; entry = stored e }
 
 -- the table that a decision leaves

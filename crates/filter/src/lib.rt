@@ -4,7 +4,7 @@ ghost use Prim.Native.Nat.{_^_, _≤_, _<_, max};
 ghost use lib.ListN.{length};
 ghost use Rattle.entry.specs.Layout.{headerSize, placeAt};
 ghost use Rattle.entry.specs.Viewed.{viewed, stored};
-ghost use Rattle.rows.specs.Rows.{Blocked, Passed, freeEntry, entryWith, senderOf, onEntry, openingEntry, unmatched, onSegment};
+ghost use Rattle.rows.specs.Rows.{Blocked, Passed, nowhere, freeEntry, entryWith, senderOf, onEntry, openingEntry, unmatched, onSegment};
 ghost use Rattle.rows.specs.Connections.{connections};
 ghost use Rattle.table.specs.Table.{headerClock, viewOf};
 ghost use Rattle.filter.specs.Length.{legalLength, placesFor};
@@ -77,17 +77,24 @@ fn free_entry() -> Entry
     }
 }
 
-// Every answer but a pass gives place 65,535.
-fn blocked(answer: u32) -> Decision
-    ensures { λ r. ⌜ r ≡ decisionOf (Blocked answer) ⌝ }
+// Refused, with its place.
+fn blocked_at(answer: u32, place: usize) -> Decision
+    ensures { λ r. ⌜ r ≡ decisionOf (Blocked answer place) ⌝ }
 {
     let entry = free_entry();
     Decision {
         answer: answer,
-        place: 65535,
+        place: place,
         clock: 0,
         entry: entry,
     }
+}
+
+// Every answer but 5 to 10 and a pass gives place 65,535.
+fn blocked(answer: u32) -> Decision
+    ensures { λ r. ⌜ r ≡ decisionOf (Blocked answer nowhere) ⌝ }
+{
+    blocked_at(answer, 65535)
 }
 
 fn passed(place: usize, clock: u64, entry: Entry) -> Decision
@@ -266,7 +273,7 @@ fn on_read(
     ensures { λ r. ⌜ r ≡ decisionOf (rows5to10 Blocked read (onSegment connections (viewOf version (now (table .entry)) places) clock side)) ⌝ }
 {
     match read {
-        PacketRead::Refused(cause) => blocked(cause.number()),
+        PacketRead::Refused(cause, offset) => blocked_at(cause.number(), offset),
         PacketRead::Tcp(flow, segment) => on_segment(
             version,
             table,

@@ -18,7 +18,7 @@ module _
 
   with-ask : (q : M .Call) (r : Reading Ask) (l : List Ask) → M .reads q ≡ r → AllPlaceable l → AllPlaceable (withAsk r l)
   unfolding AllPlaceable
-  with-ask q (refused m) l e before = before
+  with-ask q (refused m place) l e before = before
   with-ask q (asks a) l e before = (keeps .well-formed q a e, before)
   with-ask q apart l e before = before
 
@@ -33,8 +33,8 @@ module _
       M .view s ≡ viewAfter connections n l →
       M .view (M .run s q .next) ≡ viewAfter connections n (withAsk r l)
   unfolding viewAfter
-  view-next s q (refused m) l sound-s e before =
-      keeps .blocked-keeps s q (λ zero-answer. keeps .refusal-blocks q m e (sym (keeps .refusal-answered s q m sound-s e) ∙ zero-answer)) ∙ before
+  view-next s q (refused m place) l sound-s e before =
+      keeps .blocked-keeps s q (λ zero-answer. keeps .refusal-blocks q m place e (sym (keeps .refusal-answered s q m place sound-s e) ∙ zero-answer)) ∙ before
   view-next s q (asks a) l sound-s e before =
       keeps .view-by-rows s q a sound-s e ∙ ap (λ (v : View connections). after connections v (filter connections v a)) before
   view-next s q apart l sound-s e before = keeps .apart-keeps s q sound-s e ∙ before
@@ -62,8 +62,8 @@ module _
             rw (keeps .answer-by-rows s q a (stays-sound l) e
             ∙ ap (λ (v : View connections). answerOf connections (filter connections v a)) (view-after l))
             (follows .all-places a (keeps .well-formed q a e));
-        refusal-answer = λ q m e. keeps .refusal-answered s q m (stays-sound l) e;
-        refusal-place = λ q m e. keeps .refusal-placed s q m (stays-sound l) e;
+        refusal-answer = λ q m place e. keeps .refusal-answered s q m place (stays-sound l) e;
+        refusal-place = λ q m place e. keeps .refusal-placed s q m place (stays-sound l) e;
         apart-stays = λ q e. keeps .apart-keeps s q (stays-sound l) e;
       }
 

@@ -191,8 +191,8 @@ module _ (M : Machine) (Sound : M .State → Type 0) (keeps : KeepsTo M Sound) (
         (true-or-false (passes M t q))
       where
         by-reading : (r : Reading Ask) → M .reads q ≡ r → passes M t q ≡ true → Table-kept (afterCall M t q other)
-        by-reading (refused n) is e =
-            absurd (keeps .refusal-blocks q n is (sym (keeps .refusal-answered (t .state) q n (kept .sound) is) ∙ passed-0 e))
+        by-reading (refused n place) is e =
+            absurd (keeps .refusal-blocks q n place is (sym (keeps .refusal-answered (t .state) q n place (kept .sound) is) ∙ passed-0 e))
         by-reading (asks a) is e =
             let x = asked a is e in
             record {

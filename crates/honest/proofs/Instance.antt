@@ -19,9 +19,9 @@ use Rattle.honest.proofs.Demand3.{demand3}
 module _ (number : ℕ → ℕ) where
   pub viewMachine-keeps : KeepsTo (viewMachine number) SoundTwoEndedView
   viewMachine-keeps = record {
-    refusal-answered = λ t q n sound is. false-true cc;
-    refusal-placed = λ t q n sound is. false-true cc;
-    refusal-blocks = λ q n is. false-true cc;
+    refusal-answered = λ t q n place sound is. false-true cc;
+    refusal-placed = λ t q n place sound is. false-true cc;
+    refusal-blocks = λ q n place is. false-true cc;
     well-formed = λ q a is. let same : q .0 ≡ a = cc in rw same at (q .2);
     answer-by-rows = λ t q a sound is. let same : q .0 ≡ a = cc in rw same;
     place-by-rows = λ t q a sound is. let same : q .0 ≡ a = cc in rw same;

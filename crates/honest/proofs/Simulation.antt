@@ -42,31 +42,31 @@ module _ {B C : Bodies} where
       pub places : v .places ≡ u .places
       pub entries : (p : ℕ) → R (v .entry p) (u .entry p)
 
-    -- the same answer; or a pass at the same place by the same clock, with related entries
+    -- the same answer and place; or a pass at the same place by the same clock, with related entries
     abbrev pub Alike : Outcome B → Outcome C → Type 0
-    Alike (Blocked m) (Blocked n) = m ≡ n
-    Alike (Blocked m) (Passed q now f) = ⊥
-    Alike (Passed p now e) (Blocked n) = ⊥
+    Alike (Blocked m at) (Blocked n at') = (m ≡ n) × (at ≡ at')
+    Alike (Blocked m at) (Passed q now f) = ⊥
+    Alike (Passed p now e) (Blocked n at') = ⊥
     Alike (Passed p now e) (Passed q now' f) = (p ≡ q) × (now ≡ now') × R e f
 
     pub answer-alike : (o : Outcome B) (o' : Outcome C) → Alike o o' → answerOf B o ≡ answerOf C o'
-    answer-alike (Blocked m) (Blocked n) same = same
-    answer-alike (Blocked m) (Passed q now f) same = absurd same
-    answer-alike (Passed p now e) (Blocked n) same = absurd same
+    answer-alike (Blocked m at) (Blocked n at') same = same .0
+    answer-alike (Blocked m at) (Passed q now f) same = absurd same
+    answer-alike (Passed p now e) (Blocked n at') same = absurd same
     answer-alike (Passed p now e) (Passed q now' f) same = refl
 
     pub place-alike : (number : ℕ → ℕ) (o : Outcome B) (o' : Outcome C) → Alike o o' → placeBy number o ≡ placeBy number o'
-    place-alike number (Blocked m) (Blocked n) same = refl
-    place-alike number (Blocked m) (Passed q now f) same = absurd same
-    place-alike number (Passed p now e) (Blocked n) same = absurd same
+    place-alike number (Blocked m at) (Blocked n at') same = same .1
+    place-alike number (Blocked m at) (Passed q now f) same = absurd same
+    place-alike number (Passed p now e) (Blocked n at') same = absurd same
     place-alike number (Passed p now e) (Passed q now' f) same = ap number (same .0)
 
     pub after-alike :
         (v : View B) (u : View C) → Related v u → (o : Outcome B) (o' : Outcome C) → Alike o o' →
         Related (after B v o) (after C u o')
-    after-alike v u related (Blocked m) (Blocked n) same = related
-    after-alike v u related (Blocked m) (Passed q now f) same = absurd same
-    after-alike v u related (Passed p now e) (Blocked n) same = absurd same
+    after-alike v u related (Blocked m at) (Blocked n at') same = related
+    after-alike v u related (Blocked m at) (Passed q now f) same = absurd same
+    after-alike v u related (Passed p now e) (Blocked n at') same = absurd same
     after-alike v u related (Passed p now e) (Passed q now' f) same = record {
       clock = same .1;
       places = related .places;
@@ -103,9 +103,9 @@ module _ {B C : Bodies} where
           (w : Verdict) (p : ℕ) (e : Entry B) (f : Entry C) → (w ≡ Pass → R e f) →
           Alike R (byVerdict B w (Passed p now e)) (byVerdict C w (Passed p now f))
       by-verdict-same Pass p e f r = (refl, refl, r refl)
-      by-verdict-same NotAllowed p e f r = refl
-      by-verdict-same SequenceMissed p e f r = refl
-      by-verdict-same AckMissed p e f r = refl
+      by-verdict-same NotAllowed p e f r = (refl, refl)
+      by-verdict-same SequenceMissed p e f r = (refl, refl)
+      by-verdict-same AckMissed p e f r = (refl, refl)
 
       entry-same :
           (p : ℕ) (e : Entry B) (f : Entry C) → R e f → 0 < B .deadline (e .connection) →
@@ -121,10 +121,10 @@ module _ {B C : Bodies} where
       unfolding unmatched
       unmatched-same =
           if-both (Alike R) (isOpening side g) (isOpening side g) _ _ _ _ refl
-          (λ opening. rw (← lowest-same) (go opening (lowestVacant B v now))) (λ _. refl)
+          (λ opening. rw (← lowest-same) (go opening (lowestVacant B v now))) (λ _. (refl, refl))
         where
           go : isOpening side g ≡ true → (r : Found) → Alike R (onVacant B r now side k g) (onVacant C r now side k g)
-          go opening Nothing = refl
+          go opening Nothing = (refl, refl)
           go opening (At p) = (refl, refl, agree .made now side k g fit opening)
 
       pub segment-same : Alike R (onSegment B v now side k g) (onSegment C u now side k g)

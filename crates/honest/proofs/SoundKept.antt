@@ -177,7 +177,7 @@ module _ (v : View connections) (a : Ask) where
     pub key : (SeqNumsFit : Flow → Type 0) → SeqNumsFit noFlow → SeqNumsFit (a .key) → SeqNumsFit (v .entry p .key) → SeqNumsFit (e .key)
 
   abbrev pub LeftBy : Outcome connections → Type 1
-  LeftBy (Blocked n) = Unit {1}
+  LeftBy (Blocked n place) = Unit {1}
   LeftBy (Passed p used e) = Left p used e
 
   entry-key :
@@ -219,7 +219,7 @@ module _ (v : View connections) (a : Ask) where
   filter-sound sound two-ended known placeable = go (filter connections v a) (filter-left sound two-ended known placeable)
     where
       go : (o : Outcome connections) → LeftBy o → SoundView (after connections v o) × TwoEndedView (after connections v o)
-      go (Blocked n) left = (sound, two-ended)
+      go (Blocked n place) left = (sound, two-ended)
       go (Passed p used e) left = ((λ q inside. all q inside .sound), (λ q inside. all q inside .two-ended))
         where
           all : (q : ℕ) → q < v .places → SoundEntry used (after connections v (Passed p used e) .entry q)

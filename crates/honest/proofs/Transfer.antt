@@ -100,15 +100,15 @@ module _ (M : Machine) where
 
   -- a refused call put in at any place
   pub refused-carries :
-      (k : ℕ) (q : M .Call) (n : ℕ) → M .reads q ≡ refused n → {L : List (Event (M .Call))} {N : List (Event ViewCall)} →
+      (k : ℕ) (q : M .Call) (n place : ℕ) → M .reads q ≡ refused n place → {L : List (Event (M .Call))} {N : List (Event ViewCall)} →
       Carries M L N →
       Carries M (withOther k q L) N
-  refused-carries zero q n is c = refused-alone is c
-  refused-carries (suc k) q n is none = refused-alone is none
-  refused-carries (suc k) q n is (sent c) = sent (refused-carries k q n is c)
-  refused-carries (suc k) q n is (called this c) = called this (refused-carries k q n is c)
-  refused-carries (suc k) q n is (refused-alone this c) = refused-alone this (refused-carries k q n is c)
-  refused-carries (suc k) q n is (delivered c) = delivered (refused-carries k q n is c)
+  refused-carries zero q n place is c = refused-alone is c
+  refused-carries (suc k) q n place is none = refused-alone is none
+  refused-carries (suc k) q n place is (sent c) = sent (refused-carries k q n place is c)
+  refused-carries (suc k) q n place is (called this c) = called this (refused-carries k q n place is c)
+  refused-carries (suc k) q n place is (refused-alone this c) = refused-alone this (refused-carries k q n place is c)
+  refused-carries (suc k) q n place is (delivered c) = delivered (refused-carries k q n place is c)
 
 -- What the calls tell
 
@@ -162,9 +162,9 @@ module _ (M : Machine) (Sound : M .State → Type 0) (keeps : KeepsTo M Sound) (
     }
 
   -- a refused call is blocked and tells nothing
-  module _ (t : Told M) (kept : Sound (t .state)) (q : M .Call) (n : ℕ) (is : M .reads q ≡ refused n) where
+  module _ (t : Told M) (kept : Sound (t .state)) (q : M .Call) (n place : ℕ) (is : M .reads q ≡ refused n place) where
     refused-not-0 : M .run (t .state) q .answer ≡ 0 → ⊥
-    refused-not-0 e = keeps .refusal-blocks q n is (sym (keeps .refusal-answered (t .state) q n kept is) ∙ e)
+    refused-not-0 e = keeps .refusal-blocks q n place is (sym (keeps .refusal-answered (t .state) q n place kept is) ∙ e)
 
     refused-no-pass : passes M t q ≡ false
     unfolding passes
@@ -201,7 +201,7 @@ module _ (M : Machine) (Sound : M .State → Type 0) (keeps : KeepsTo M Sound) (
   told-same (sent c) = told-same c
   told-same (called {q = q} {b = b} {l = l} is c) =
       ap (λ (t : Told F). afterCall F t b l) (told-same c) ∙ same-after _ (told-sound c) q b is l
-  told-same (refused-alone {q = q} {n = n} is c) = told-same c ∙ refused-tells-nothing _ (told-sound c) q n is
+  told-same (refused-alone {q = q} {n = n} {place = at} is c) = told-same c ∙ refused-tells-nothing _ (told-sound c) q n at is
   told-same (delivered c) = told-same c
 
   -- What is asked of each event
@@ -277,8 +277,8 @@ module _ (M : Machine) (Sound : M .State → Type 0) (keeps : KeepsTo M Sound) (
   legal-along P none legal = tt
   legal-along P (sent {p = p} c) legal = (record { allowed = allowed-carried M P p c (legal .0 .allowed); formed = legal .0 .formed }, legal-along P c (legal .1))
   legal-along P (called {q = q} {b = b} {l = l} is c) legal = (fair-call-carried c q b is P l (legal .0), legal-along P c (legal .1))
-  legal-along P (refused-alone {q = q} {n = n} is c) legal =
-      (λ on-ours. false-true (sym (refused-no-pass _ (told-sound c) q n is) ∙ on-ours .answered-0), legal-along P c legal)
+  legal-along P (refused-alone {q = q} {n = n} {place = at} is c) legal =
+      (λ on-ours. false-true (sym (refused-no-pass _ (told-sound c) q n at is) ∙ on-ours .answered-0), legal-along P c legal)
   legal-along P (delivered {k = k} {p = p} c) legal = (passed-carried k p c (legal .0), legal-along P c (legal .1))
 
   others-same : {L : Carrying M} {N : Carried M} → Carries M L N → othersSaid M s₀ L ≡ othersSaid F t₀ N

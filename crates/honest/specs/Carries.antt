@@ -22,7 +22,7 @@ pub data Carries (M : Machine) : List (Event (M .Call)) → List (Event ViewCall
       M .reads q ≡ asks (b .0) → Carries M L N →
       Carries M (call q l ∷ L) (call b l ∷ N)
   refused-alone :
-      {q : M .Call} {n : ℕ} {L : List (Event (M .Call))} {N : List (Event ViewCall)} → M .reads q ≡ refused n → Carries M L N →
+      {q : M .Call} {n place : ℕ} {L : List (Event (M .Call))} {N : List (Event ViewCall)} → M .reads q ≡ refused n place → Carries M L N →
       Carries M (call q other ∷ L) N
   delivered :
       {k : ℕ} {p : LineSegment} {L : List (Event (M .Call))} {N : List (Event ViewCall)} → Carries M L N →
@@ -60,7 +60,7 @@ pub record Summary : Type 0 where
 
 -- an answer and place before others, if their call asks something
 abbrev pub ifAsked : {A : Type 0} → Reading A → ℕ × ℕ → List (ℕ × ℕ) → List (ℕ × ℕ)
-ifAsked (refused n) said l = l
+ifAsked (refused n place) said l = l
 ifAsked (asks a) said l = said ∷ l
 ifAsked apart said l = l
 

@@ -4,7 +4,7 @@ use Prim.Native.Nat.{ℕ, _≤_}
 use mathlib.Core.Path.{_≡_}
 use mathlib.Core.Logic.{_⊎_}
 use mathlib.Core.List.{List, [], _∷_}
-use Rattle.rows.specs.Rows.{Bodies, Ask, View, Outcome, freeEntry, matchOf, senderOf, filter, answerOf, placeBy, after, nowhere}
+use Rattle.rows.specs.Rows.{Bodies, Ask, View, Outcome, freeEntry, matchOf, senderOf, filter, answerOf, placeBy, after}
 use Rattle.rows.specs.Connections.{connections}
 use Rattle.rows.specs.declared.Found.the-variants.{At}
 use Rattle.history.specs.History.{stageOf, Placeable}
@@ -67,7 +67,7 @@ Demand2 = (n : ℕ) (l : List Ask) → AllPlaceable l → FollowsHistories n l
 
 -- with a call, if it asks something
 abbrev pub withAsk : Reading Ask → List Ask → List Ask
-withAsk (refused n) l = l
+withAsk (refused n place) l = l
 withAsk (asks a) l = a ∷ l
 withAsk apart l = l
 
@@ -83,7 +83,7 @@ module _ (M : Machine) (s₀ : M .State) where
   stateAfter (q ∷ l) = M .run (stateAfter l) q .next
 
   -- after a list of calls the machine's view is the histories' table in numbers; a next call that asks has the answer and the place that
-  -- they give, one that is refused has the answer of its refusal and no place, and one on another part of the table leaves the view
+  -- they give, one that is refused has the answer and the place of its refusal, and one on another part of the table leaves the view
   pub record MachineFollows (n : ℕ) (l : List (M .Call)) : Type 0 where
     pub table : M .view (stateAfter l) ≡ inNumbers (viewAfter histories n (asked M l))
     pub answer :
@@ -95,8 +95,8 @@ module _ (M : Machine) (s₀ : M .State) where
     pub all-places :
         (q : M .Call) (a : Ask) → M .reads q ≡ asks a →
         AnswersByAllPlaces (viewAfter histories n (asked M l)) a (M .run (stateAfter l) q .answer)
-    pub refusal-answer : (q : M .Call) (m : ℕ) → M .reads q ≡ refused m → M .run (stateAfter l) q .answer ≡ m
-    pub refusal-place : (q : M .Call) (m : ℕ) → M .reads q ≡ refused m → M .run (stateAfter l) q .place ≡ nowhere
+    pub refusal-answer : (q : M .Call) (m place : ℕ) → M .reads q ≡ refused m place → M .run (stateAfter l) q .answer ≡ m
+    pub refusal-place : (q : M .Call) (m place : ℕ) → M .reads q ≡ refused m place → M .run (stateAfter l) q .place ≡ place
     pub apart-stays : (q : M .Call) → M .reads q ≡ apart → M .view (M .run (stateAfter l) q .next) ≡ M .view (stateAfter l)
 
 -- from every sound state whose view is the fresh table of any number of places, after every list of calls

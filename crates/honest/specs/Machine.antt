@@ -1,7 +1,7 @@
 -- A machine that answers calls, and what must be shown of it: that it keeps to rows 11 to 15 and 0 on a view of its table.
 use Prim.Native.Nat.{ℕ}
 use mathlib.Core.Path.{_≡_}
-use Rattle.rows.specs.Rows.{Ask, View, filter, answerOf, nowhere, placeBy, after}
+use Rattle.rows.specs.Rows.{Ask, View, filter, answerOf, placeBy, after}
 use Rattle.rows.specs.Connections.{connections}
 use Rattle.history.specs.History.{Placeable}
 use Rattle.honest.specs.Sound.{SoundView}
@@ -12,10 +12,10 @@ pub record Said (State : Type 0) : Type 0 where
   pub place : ℕ
   pub next : State
 
--- what a call is to the filter: refused before any connection is looked for (answers 1, 2 and 5 to 10); asked; or apart, on another part
--- of the table than the one viewed, as the other owner's calls on a shared table (document 02, item 12); where the whole is viewed none is
+-- what a call is to the filter: refused before any connection is looked for (answers 1, 2 and 5 to 10), with its answer and its place; asked;
+-- or apart, on another part of the table than the one viewed, as the other owner's calls on a shared table (document 02, item 12); where the whole is viewed none is
 pub data Reading (A : Type 0) : Type 0 where
-  refused : (answer : ℕ) → Reading A
+  refused : (answer place : ℕ) → Reading A
   asks : A → Reading A
   apart : Reading A
 
@@ -31,17 +31,17 @@ pub record Machine : Type 1 where
 
 -- the clock given; that of a call that is refused, or on another part of the table, moves nothing here
 abbrev pub clockIn : Reading Ask → ℕ
-clockIn (refused n) = 0
+clockIn (refused n place) = 0
 clockIn (asks a) = a .clock
 clockIn apart = 0
 
 module _ (M : Machine) (Sound : M .State → Type 0) where
   -- every state that calls lead to is sound; a table that isn't has answer 4
   pub record KeepsTo : Type 0 where
-    -- a call that is not well formed has the answer of its refusal, which is no pass, and no place
-    pub refusal-answered : (s : M .State) (q : M .Call) (n : ℕ) → Sound s → M .reads q ≡ refused n → M .run s q .answer ≡ n
-    pub refusal-placed : (s : M .State) (q : M .Call) (n : ℕ) → Sound s → M .reads q ≡ refused n → M .run s q .place ≡ nowhere
-    pub refusal-blocks : (q : M .Call) (n : ℕ) → M .reads q ≡ refused n → n ≡ 0 → ⊥
+    -- a call that is not well formed has the answer of its refusal, which is no pass, and its place
+    pub refusal-answered : (s : M .State) (q : M .Call) (n place : ℕ) → Sound s → M .reads q ≡ refused n place → M .run s q .answer ≡ n
+    pub refusal-placed : (s : M .State) (q : M .Call) (n place : ℕ) → Sound s → M .reads q ≡ refused n place → M .run s q .place ≡ place
+    pub refusal-blocks : (q : M .Call) (n place : ℕ) → M .reads q ≡ refused n place → n ≡ 0 → ⊥
     -- one that asks is answered by rows 11 to 15 and 0
     pub answer-by-rows :
         (s : M .State) (q : M .Call) (a : Ask) → Sound s → M .reads q ≡ asks a →

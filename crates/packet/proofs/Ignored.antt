@@ -58,7 +58,7 @@ module _ (p past : List ℕ) where
     onHeader-unchanged :
         (r : IpRead) → ((h t : ℕ) → r ≡ CarriesTcp h t → t ≤ length p) →
         onHeader v addresses (p ++ past) r ≡ onHeader v addresses p r
-    onHeader-unchanged (BadHeader cause) ends = refl
+    onHeader-unchanged (BadHeader cause offset) ends = refl
     onHeader-unchanged (CarriesTcp h t) ends = rows9to10-unchanged h t (ends h t refl)
 
   -- Rows 5 to 8, of IPv4

@@ -1,4 +1,4 @@
--- Every flow and segment that reading a packet gives is within its fields, and the segment readable.
+-- Every flow and segment that reading a packet gives is within its fields, the segment readable, and a refusal points into the packet.
 use Prim.Native.Nat.{ℕ, _+_, _-_, _*_, _/_, _^_, _<_}
 use mathlib.Core.Path.{_≡_, refl, sym, _∙_}
 use mathlib.Core.Bool.{Bool, true, false}
@@ -28,15 +28,16 @@ use Rattle.packet.specs.declared.IpRead.the-variants.{BadHeader, Carries
 use Rattle.packet.specs.declared.PacketRead.{PacketRead}
 use Rattle.packet.specs.declared.PacketRead.the-variants.{Refused, Tcp}
 use Rattle.packet.proofs.Flags.{bit-clear}
+use Rattle.packet.proofs.Offsets.{HeaderPoints, header-points, ipv4Header-points}
 
 -- What a list gives that took none of its lines
 
 past-refusal :
-    {f : Flow} {g : Segment} {rest : PacketRead} (t : Bool) (cause : Cause) → (if t then Refused cause else rest) ≡ Tcp f g →
+    {f : Flow} {g : Segment} {rest : PacketRead} (t : Bool) (cause : Cause) (offset : ℕ) → (if t then Refused cause offset else rest) ≡ Tcp f g →
     rest ≡ Tcp f g
 unfolding if_then_else_
-past-refusal true cause e = false-true cc
-past-refusal false cause e = e
+past-refusal true cause offset e = false-true cc
+past-refusal false cause offset e = e
 
 past-bad : {t : Bool} {check : FlagCheck} (cause : Cause) → (if t then BadFlags cause else check) ≡ Fine → (t ≡ false) × (check ≡ Fine)
 unfolding if_then_else_
@@ -44,17 +45,17 @@ past-bad {t = true} cause e = false-true cc
 past-bad {t = false} cause e = (refl, e)
 
 past-check :
-    {f : Flow} {g : Segment} (read : PacketRead) (check : FlagCheck) → onFlags check read ≡ Tcp f g →
+    {f : Flow} {g : Segment} (h : ℕ) (read : PacketRead) (check : FlagCheck) → onFlags h check read ≡ Tcp f g →
     (check ≡ Fine) × (read ≡ Tcp f g)
-past-check read (BadFlags cause) e = false-true cc
-past-check read Fine e = (refl, e)
+past-check h read (BadFlags cause) e = false-true cc
+past-check h read Fine e = (refl, e)
 
 past-bad-header :
-    {h t : ℕ} {rest : IpRead} (b : Bool) (cause : Cause) → (if b then BadHeader cause else rest) ≡ CarriesTcp h t →
+    {h t : ℕ} {rest : IpRead} (b : Bool) (cause : Cause) (offset : ℕ) → (if b then BadHeader cause offset else rest) ≡ CarriesTcp h t →
     rest ≡ CarriesTcp h t
 unfolding if_then_else_
-past-bad-header true cause e = false-true cc
-past-bad-header false cause e = e
+past-bad-header true cause offset e = false-true cc
+past-bad-header false cause offset e = e
 
 carries-both : (h t j u : ℕ) → CarriesTcp h t ≡ CarriesTcp j u → (h ≡ j) × (t ≡ u)
 carries-both h t j u e = (cc, cc)
@@ -65,9 +66,9 @@ carries-both h t j u e = (cc, cc)
 pub ipv4-carries : (p : List ℕ) (h t : ℕ) → ipv4Header p ≡ CarriesTcp h t → (headerLength p ≡ h) × (totalLength p ≡ t)
 unfolding rows6to8 ipv4Header
 ipv4-carries p h t e =
-    let past-1 = past-bad-header _ _ e in
-    let past-row5 = past-bad-header _ _ (past-bad-header _ _ (past-bad-header _ _ (past-bad-header _ _ past-1))) in
-    carries-both _ _ h t (past-bad-header _ _ (past-bad-header _ _ (past-bad-header _ _ past-row5)))
+    let past-1 = past-bad-header _ _ _ e in
+    let past-row5 = past-bad-header _ _ _ (past-bad-header _ _ _ (past-bad-header _ _ _ (past-bad-header _ _ _ past-1))) in
+    carries-both _ _ h t (past-bad-header _ _ _ (past-bad-header _ _ _ (past-bad-header _ _ _ past-row5)))
 
 -- at most 65,535 octets follow it
 ipv4-span : (p : List ℕ) (h t : ℕ) → Octets p → ipv4Header p ≡ CarriesTcp h t → t - h < 2 ^ 16
@@ -150,28 +151,29 @@ module _ (v : Version) (addresses : ℕ) (p : List ℕ) (k : Flow) (g : Segment)
       (h t : ℕ) → rows9to10 v addresses p h t ≡ Tcp k g →
       (row10 (controlBits p h) (payload p h t) ≡ Fine) × (Tcp (flowAt v p addresses h) (segmentOf p h t) ≡ Tcp k g)
   unfolding rows9to10
-  past-rows9to10 h t e = past-check _ _ (past-refusal _ _ (past-refusal _ _ (past-refusal _ _ e)))
+  past-rows9to10 h t e = past-check _ _ _ (past-refusal _ _ _ (past-refusal _ _ _ (past-refusal _ _ _ e)))
 
   stands : (r : IpRead) → onHeader v addresses p r ≡ Tcp k g → Stands v addresses p r k g
-  stands (BadHeader cause) e = false-true cc
+  stands (BadHeader cause offset) e = false-true cc
   stands (CarriesTcp h t) e =
       let both = past-rows9to10 h t e in
       let same = both .1 in
       record { h = h; t = t; carries = refl; fine = both .0; flow = cc; segment = cc }
 
--- a version's reader by its rows 5 to 8, if they let at most 65,535 octets follow the IP header
+-- a version's reader by its rows 5 to 8, if they let at most 65,535 octets follow the IP header, and point into the packet
 reader-of :
     (v : Version) (addresses : ℕ) (header : List ℕ → IpRead) →
-    ((p : List ℕ) (h t : ℕ) → Octets p → header p ≡ CarriesTcp h t → t - h < 2 ^ 16) →
+    ((p : List ℕ) (h t : ℕ) → Octets p → header p ≡ CarriesTcp h t → t - h < 2 ^ 16) → ((p : List ℕ) → HeaderPoints p (header p)) →
     ReaderOf v (λ p. onHeader v addresses p (header p))
-reader-of v addresses header span = record {
+reader-of v addresses header span points = record {
   flow = λ p k g octets e.
       let s = stands v addresses p k g (header p) e in
       rw (s .flow) (fits-flowAt v p addresses (s .h) octets);
   segment = λ p k g octets e.
       let s = stands v addresses p k g (header p) e in
       rw (s .segment) (segmentOf-readable p (s .h) (s .t) octets (span p (s .h) (s .t) octets (s .carries)) (s .fine));
+  offset = λ p. header-points v addresses p (header p) (points p);
 }
 
 pub ipv4-reader : ReaderOf V4 readIPv4
-ipv4-reader = reader-of V4 ipv4Addresses ipv4Header ipv4-span
+ipv4-reader = reader-of V4 ipv4Addresses ipv4Header ipv4-span ipv4Header-points

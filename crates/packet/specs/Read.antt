@@ -1,4 +1,5 @@
--- What reading a packet gives: answers 5 to 10 of document 01 in its order, 14 causes told apart, or the flow and the segment.
+-- What reading a packet gives: answers 5 to 10 of document 01 in its order, 14 causes told apart, each with the byte offset that document 02,
+-- item 2, gives it; or the flow and the segment.
 -- The IP version decides rows 5 to 8 and where the addresses stand; rows 9 and 10 are TCP's, and the same for every version.
 -- p is the packet's bytes, h its IP header's length, t its total length.
 use Prim.Native.Nat.{ℕ, _+_, _-_, _^_, _≤_, _<_}
@@ -22,6 +23,53 @@ use Rattle.packet.specs.declared.IpRead.the-variants.{BadHeader, Carries
 use Rattle.packet.specs.declared.PacketRead.{PacketRead}
 use Rattle.packet.specs.declared.PacketRead.the-variants.{Refused, Tcp}
 
+-- Causes
+
+-- document 01's number of each cause
+abbrev pub causeNumber : Cause → ℕ
+causeNumber Short = 5
+causeNumber OtherVersion = 5
+causeNumber HeaderLength = 5
+causeNumber TotalBelowHeader = 5
+causeNumber TotalAboveGiven = 5
+causeNumber HeaderSum = 6
+causeNumber Fragment = 7
+causeNumber Protocol = 8
+causeNumber TcpShort = 9
+causeNumber OffsetBelowFive = 9
+causeNumber OffsetPastTotal = 9
+causeNumber SynFinRst = 10
+causeNumber NoSynAckRst = 10
+causeNumber SynPayload = 10
+
+-- document 02, item 2, "where it broke": the offset of each cause in an IPv4 packet, from the packet's first byte
+abbrev pub causeOffset : ℕ → Cause → ℕ
+-- "5: 0 for the first three causes, 2 for total length"
+causeOffset h Short = 0
+causeOffset h OtherVersion = 0
+causeOffset h HeaderLength = 0
+causeOffset h TotalBelowHeader = 2
+causeOffset h TotalAboveGiven = 2
+-- "6: 10; 7: 6; 8: 9"
+causeOffset h HeaderSum = 10
+causeOffset h Fragment = 6
+causeOffset h Protocol = 9
+-- "9: h if under 20 bytes follow, else h + 12"
+causeOffset h TcpShort = h
+causeOffset h OffsetBelowFive = h + 12
+causeOffset h OffsetPastTotal = h + 12
+-- "10: h + 13"
+causeOffset h SynFinRst = h + 13
+causeOffset h NoSynAckRst = h + 13
+causeOffset h SynPayload = h + 13
+
+-- a refusal has its cause and its offset: by the IP header, and of the packet
+abbrev pub headerRefusal : ℕ → Cause → IpRead
+headerRefusal h cause = BadHeader cause (causeOffset h cause)
+
+abbrev pub refusal : ℕ → Cause → PacketRead
+refusal h cause = Refused cause (causeOffset h cause)
+
 -- Each list: the first line that applies wins
 
 -- IPv4: rows 5 to 8, or where TCP's header begins and where the packet ends
@@ -29,11 +77,11 @@ use Rattle.packet.specs.declared.PacketRead.the-variants.{Refused, Tcp}
 unfoldable pub rows6to8 : List ℕ → ℕ → ℕ → IpRead
 rows6to8 p h t =
     -- 6: the header's ones' complement 16-bit sum is not ffff
-    if onesSum (take h p) ≠ᵇ 0xffff then BadHeader HeaderSum
+    if onesSum (take h p) ≠ᵇ 0xffff then headerRefusal h HeaderSum
     -- 7: more-fragments set or fragment offset not 0
-    else if (moreFragments p =ᵇ 1) || (fragmentOffset p ≠ᵇ 0) then BadHeader Fragment
+    else if (moreFragments p =ᵇ 1) || (fragmentOffset p ≠ᵇ 0) then headerRefusal h Fragment
     -- 8: protocol is not 6
-    else if protocol p ≠ᵇ 6 then BadHeader Protocol
+    else if protocol p ≠ᵇ 6 then headerRefusal h Protocol
     else CarriesTcp h t
 
 unfoldable pub ipv4Header : List ℕ → IpRead
@@ -41,11 +89,11 @@ ipv4Header p =
     let h : ℕ = headerLength p in
     let t : ℕ = totalLength p in
     -- 5: under 20 bytes; version not 4; header length under 20; total length below header length or above the bytes given
-    if length p <ᵇ 20 then BadHeader Short
-    else if version p ≠ᵇ 4 then BadHeader OtherVersion
-    else if h <ᵇ 20 then BadHeader HeaderLength
-    else if t <ᵇ h then BadHeader TotalBelowHeader
-    else if length p <ᵇ t then BadHeader TotalAboveGiven
+    if length p <ᵇ 20 then headerRefusal h Short
+    else if version p ≠ᵇ 4 then headerRefusal h OtherVersion
+    else if h <ᵇ 20 then headerRefusal h HeaderLength
+    else if t <ᵇ h then headerRefusal h TotalBelowHeader
+    else if length p <ᵇ t then headerRefusal h TotalAboveGiven
     else rows6to8 p h t
 
 -- where its source address begins; the destination's follows it
@@ -76,23 +124,23 @@ row10 f n =
     else if (syn f =ᵇ 1) && (n ≠ᵇ 0) then BadFlags SynPayload
     else Fine
 
-abbrev pub onFlags : FlagCheck → PacketRead → PacketRead
-onFlags (BadFlags cause) read = Refused cause
-onFlags Fine read = read
+abbrev pub onFlags : ℕ → FlagCheck → PacketRead → PacketRead
+onFlags h (BadFlags cause) read = refusal h cause
+onFlags h Fine read = read
 
 -- 9 and 10, or the flow, by where the version has its addresses, and the segment
 unfoldable pub rows9to10 : Version → ℕ → List ℕ → ℕ → ℕ → PacketRead
 rows9to10 v addresses p h t =
     -- 9: under 20 bytes follow the IP header within total length; TCP data offset under 5 words or past total length
-    if t - h <ᵇ 20 then Refused TcpShort
-    else if dataOffset p h <ᵇ 20 then Refused OffsetBelowFive
-    else if t - h <ᵇ dataOffset p h then Refused OffsetPastTotal
-    else onFlags (row10 (controlBits p h) (payload p h t)) (Tcp (flowAt v p addresses h) (segmentOf p h t))
+    if t - h <ᵇ 20 then refusal h TcpShort
+    else if dataOffset p h <ᵇ 20 then refusal h OffsetBelowFive
+    else if t - h <ᵇ dataOffset p h then refusal h OffsetPastTotal
+    else onFlags h (row10 (controlBits p h) (payload p h t)) (Tcp (flowAt v p addresses h) (segmentOf p h t))
 
 -- The whole: what the IP header refuses, and then what TCP's does
 
 abbrev pub onHeader : Version → ℕ → List ℕ → IpRead → PacketRead
-onHeader v addresses p (BadHeader cause) = Refused cause
+onHeader v addresses p (BadHeader cause offset) = Refused cause offset
 onHeader v addresses p (CarriesTcp h t) = rows9to10 v addresses p h t
 
 abbrev pub readIPv4 : List ℕ → PacketRead
@@ -100,28 +148,11 @@ readIPv4 p = onHeader V4 ipv4Addresses p (ipv4Header p)
 
 -- what is carried lies behind the addresses and in the packet, with at most 65,535 octets after the IP header
 abbrev pub Inside : Version → ℕ → List ℕ → IpRead → Type 0
-Inside v addresses p (BadHeader cause) = Unit {0}
+Inside v addresses p (BadHeader cause offset) = Unit {0}
 Inside v addresses p (CarriesTcp h t) =
     (addresses + addressSize v + addressSize v ≤ h) × (h ≤ t) × (t ≤ length p) × (t - h < 2 ^ 16)
 
--- document 01's number of each cause
-abbrev pub causeNumber : Cause → ℕ
-causeNumber Short = 5
-causeNumber OtherVersion = 5
-causeNumber HeaderLength = 5
-causeNumber TotalBelowHeader = 5
-causeNumber TotalAboveGiven = 5
-causeNumber HeaderSum = 6
-causeNumber Fragment = 7
-causeNumber Protocol = 8
-causeNumber TcpShort = 9
-causeNumber OffsetBelowFive = 9
-causeNumber OffsetPastTotal = 9
-causeNumber SynFinRst = 10
-causeNumber NoSynAckRst = 10
-causeNumber SynPayload = 10
-
 -- of a refusal; 0 where there is none
 abbrev pub refusalNumber : PacketRead → ℕ
-refusalNumber (Refused cause) = causeNumber cause
+refusalNumber (Refused cause offset) = causeNumber cause
 refusalNumber (Tcp k g) = 0

@@ -1,17 +1,33 @@
 -- What the layers above ask of a reader of a version's packets.
-use Prim.Native.Nat.{ℕ}
+use Prim.Native.Nat.{ℕ, _≤_, _<_}
 use mathlib.Core.Path.{_≡_}
+use mathlib.Core.Logic.{_⊎_}
 use mathlib.Core.List.{List}
+use lib.ListN.{length}
 use Rattle.octets.specs.Octets.{Octets}
 use Rattle.address.specs.Address.{IsFlow}
 use Rattle.address.specs.declared.Flow.{Flow}
 use Rattle.address.specs.declared.Version.{Version}
 use Rattle.segment.specs.Readable.{Readable}
 use Rattle.segment.specs.declared.Segment.{Segment}
+use Rattle.packet.specs.declared.Cause.{Cause}
+use Rattle.packet.specs.declared.Cause.the-variants.{Short, TcpShort}
 use Rattle.packet.specs.declared.PacketRead.{PacketRead}
-use Rattle.packet.specs.declared.PacketRead.the-variants.{Tcp}
+use Rattle.packet.specs.declared.PacketRead.the-variants.{Refused, Tcp}
 
--- from octets it gives that version's addresses with 16-bit ports, and a segment as TCP's header and row 10 have it
+-- too few bytes are given for an IP header, or follow it for TCP's
+abbrev pub BytesMissing : Cause → Type 0
+BytesMissing cause = (cause ≡ Short) ⊎ (cause ≡ TcpShort)
+
+-- an offset points into the packet's bytes or, where some are missing, right behind them at most; and into the two headers, each of which has
+-- at most 60 bytes
+pub record PointsInto (p : List ℕ) (cause : Cause) (offset : ℕ) : Type 0 where
+  pub given : (offset < length p) ⊎ (BytesMissing cause × (offset ≤ length p))
+  pub headers : offset < 120
+
+-- from octets it gives that version's addresses with 16-bit ports, and a segment as TCP's header and row 10 have it; a refusal points into
+-- the packet
 pub record ReaderOf (v : Version) (read : List ℕ → PacketRead) : Type 0 where
   pub flow : (p : List ℕ) (k : Flow) (g : Segment) → Octets p → read p ≡ Tcp k g → IsFlow v k
   pub segment : (p : List ℕ) (k : Flow) (g : Segment) → Octets p → read p ≡ Tcp k g → Readable g
+  pub offset : (p : List ℕ) (cause : Cause) (offset : ℕ) → read p ≡ Refused cause offset → PointsInto p cause offset

@@ -50,14 +50,15 @@ pub enum Cause {
     SynPayload,
 }
 
-// What an IP header says: why the packet is refused, or where TCP's header begins and where the packet ends.
+// What an IP header says: why and at which byte the packet is refused, or where TCP's header begins and where the packet ends.
 enum IpRead {
-    BadHeader(Cause),
+    BadHeader(Cause, usize),
     CarriesTcp(usize, usize),
 }
 
+// Why and at which byte a packet is refused, or what it brings.
 pub enum PacketRead {
-    Refused(Cause),
+    Refused(Cause, usize),
     Tcp(Flow, Segment),
 }
 
@@ -145,19 +146,21 @@ fn read_tcp(version: Version, addresses: usize, s: &[u8], h: usize, t: usize) ->
     requires { ⌜ (addresses + addressSize version + addressSize version ≤ h) × (h ≤ t) × (t ≤ length (now s)) × (t - h < 2 ^ 16) ⌝ }
     ensures { λ r. ⌜ r ≡ rows9to10 version addresses (now (s .entry)) h t ⌝ }
 {
+    let data_offset_at = h + 12;
+    let flags_at = h + 13;
     if t - h < 20 {
-        return PacketRead::Refused(Cause::TcpShort);
+        return PacketRead::Refused(Cause::TcpShort, h);
     }
-    let offset = s[h + 12] as usize / 16 * 4;
-    if offset < 20 {
-        return PacketRead::Refused(Cause::OffsetBelowFive);
+    let data_offset = s[data_offset_at] as usize / 16 * 4;
+    if data_offset < 20 {
+        return PacketRead::Refused(Cause::OffsetBelowFive, data_offset_at);
     }
-    if t - h < offset {
-        return PacketRead::Refused(Cause::OffsetPastTotal);
+    if t - h < data_offset {
+        return PacketRead::Refused(Cause::OffsetPastTotal, data_offset_at);
     }
-    let check = check_flags(s[h + 13], t - h - offset);
+    let check = check_flags(s[flags_at], t - h - data_offset);
     match check {
-        FlagCheck::BadFlags(cause) => PacketRead::Refused(cause),
+        FlagCheck::BadFlags(cause) => PacketRead::Refused(cause, flags_at),
         FlagCheck::Fine => PacketRead::Tcp(
             read_flow(version, s, addresses, h),
             read_segment(s, h, t),
@@ -171,13 +174,13 @@ fn check_ipv4_header(s: &[u8], h: usize, t: usize) -> IpRead
     ensures { λ r. ⌜ (r ≡ rows6to8 (now (s .entry)) h t) × Inside Version.V4 ipv4Addresses (now (s .entry)) r ⌝ }
 {
     if ones_sum(&s[0..h]) != 65535 {
-        return IpRead::BadHeader(Cause::HeaderSum);
+        return IpRead::BadHeader(Cause::HeaderSum, 10);
     }
     if read16(s, 6) % 16384 != 0 {
-        return IpRead::BadHeader(Cause::Fragment);
+        return IpRead::BadHeader(Cause::Fragment, 6);
     }
     if s[9] != 6 {
-        return IpRead::BadHeader(Cause::Protocol);
+        return IpRead::BadHeader(Cause::Protocol, 9);
     }
     IpRead::CarriesTcp(h, t)
 }
@@ -187,22 +190,22 @@ fn read_ipv4_header(s: &[u8]) -> IpRead
     ensures { λ r. ⌜ (r ≡ ipv4Header (now (s .entry))) × Inside Version.V4 ipv4Addresses (now (s .entry)) r ⌝ }
 {
     if s.len() < 20 {
-        return IpRead::BadHeader(Cause::Short);
+        return IpRead::BadHeader(Cause::Short, 0);
     }
     let first = s[0] as usize;
     if first / 16 != 4 {
-        return IpRead::BadHeader(Cause::OtherVersion);
+        return IpRead::BadHeader(Cause::OtherVersion, 0);
     }
     let h = first % 16 * 4;
     if h < 20 {
-        return IpRead::BadHeader(Cause::HeaderLength);
+        return IpRead::BadHeader(Cause::HeaderLength, 0);
     }
     let t = read16(s, 2) as usize;
     if t < h {
-        return IpRead::BadHeader(Cause::TotalBelowHeader);
+        return IpRead::BadHeader(Cause::TotalBelowHeader, 2);
     }
     if s.len() < t {
-        return IpRead::BadHeader(Cause::TotalAboveGiven);
+        return IpRead::BadHeader(Cause::TotalAboveGiven, 2);
     }
     check_ipv4_header(s, h, t)
 }
@@ -213,7 +216,7 @@ pub fn read_ipv4(s: &[u8]) -> PacketRead
 {
     let header = read_ipv4_header(s);
     match header {
-        IpRead::BadHeader(cause) => PacketRead::Refused(cause),
+        IpRead::BadHeader(cause, offset) => PacketRead::Refused(cause, offset),
         IpRead::CarriesTcp(h, t) => read_tcp(Version::V4, 12, s, h, t),
     }
 }

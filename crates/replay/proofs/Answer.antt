@@ -25,9 +25,10 @@ use Rattle.report.proofs.Text.{length-decimalText≤, length-resultText}
 use Rattle.address.specs.declared.Version.the-variants.{V4}
 use Rattle.rows.specs.Rows.{Blocked, Passed}
 use Rattle.packet.specs.Read.{readIPv4}
+use Rattle.packet.proofs.Readable.{ipv4-reader}
 use Rattle.filter.specs.Call.{Outcome, ipv4Outcome, replyOf, tableAfter}
 use Rattle.filter.specs.declared.Reply.{Reply}
-use Rattle.filter.proofs.Within.{Within, outcome-within, reply-small}
+use Rattle.filter.proofs.Within.{Placed, by-packet, elsewhere, Within, outcome-within, ipv4-reply-small}
 use Rattle.replay.specs.Feed.{Memory, memory, withAnswer, withUsed, withResult, withLine, withTotal}
 use Rattle.replay.specs.Written.{lineRoom, resultRoom}
 use Rattle.replay.specs.declared.Progress.{Progress}
@@ -88,7 +89,7 @@ unfolding readAnswer
 read-never-23 line t TooLong b e = omega arith
 read-never-23 line t (Malformed offset) b e = omega arith
 read-never-23 line t NoRoom b e = b
-read-never-23 line t (Frame side clock n) b e = omega (arith, reply-small V4 side clock t (readIPv4 (linePacket line)) .0)
+read-never-23 line t (Frame side clock n) b e = omega (arith, ipv4-reply-small side clock t (linePacket line) .0)
 
 pub never-23 : Never23
 unfolding resultOf
@@ -121,13 +122,20 @@ unfolding shownText
 number-short t answer n small below =
     omega (arith, length-resultText answer (Number n), length-decimalText≤ 1 answer small, length-decimalText≤ 3 n below)
 
--- an answer of the filter is at most 15, and a place below 512
-call-short : (t : List ℕ) (o : Outcome) → Within V4 t o → Short (ofCall t o)
-unfolding shownPlace
-call-short t (Blocked n) within =
-    rw (if-= {a = 65535} {b = 65535} Dash (Number 65535) refl) (dash-short t n (omega (arith, within .1)))
-call-short t (Passed p now e) within =
-    rw (if-=-not Dash (Number p) (λ (none : p ≡ 65535). omega (arith, within .0))) (number-short t 0 p (omega arith) (omega (arith, within .0)))
+-- an answer of the filter is at most 15, an offset below 120, and a place below 512
+module _ (t packet : List ℕ) where
+  refusal-short : (n place : ℕ) → n ≤ 15 → Placed (readIPv4 packet) n place → Short (ofCall t (Blocked n place))
+  unfolding shownPlace
+  refusal-short n place most (by-packet cause is numbered) =
+      let below = ipv4-reader .offset packet cause place is .headers in
+      rw (if-=-not Dash (Number place) (λ (none : place ≡ 65535). omega (arith, below))) (number-short t n place (omega arith) (omega (arith, below)))
+  refusal-short n place most (elsewhere other none) = rw (if-= Dash (Number place) none) (dash-short t n (omega arith))
+
+  call-short : (o : Outcome) → Within V4 t (readIPv4 packet) o → Short (ofCall t o)
+  unfolding shownPlace
+  call-short (Blocked n place) within = refusal-short n place (within .1) (within .2)
+  call-short (Passed p now e) within =
+      rw (if-=-not Dash (Number p) (λ (none : p ≡ 65535). omega (arith, within .0))) (number-short t 0 p (omega arith) (omega (arith, within .0)))
 
 -- the offset of a malformed line is at most 4,111
 read-short : (line t : List ℕ) (read : LineRead) → Bounded line read → Short (ofRead read line t)
@@ -135,7 +143,7 @@ unfolding readAnswer
 read-short line t TooLong b = dash-short t 21 (omega arith)
 read-short line t (Malformed offset) b = number-short t 22 offset (omega arith) (omega arith)
 read-short line t NoRoom b = absurd b
-read-short line t (Frame side clock n) b = call-short t (ipv4Outcome side clock t (linePacket line)) (outcome-within V4 side clock t (readIPv4 (linePacket line)))
+read-short line t (Frame side clock n) b = call-short t (linePacket line) (ipv4Outcome side clock t (linePacket line)) (outcome-within V4 side clock t (readIPv4 (linePacket line)))
 
 -- so it is for every line
 pub result-short : (line t : List ℕ) → length (resultText (resultOf line t .answer) (resultOf line t .shown)) ≤ resultRoom

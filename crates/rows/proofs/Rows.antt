@@ -14,7 +14,7 @@ use Rattle.connection.specs.Decision.{verdictNumber}
 use Rattle.connection.specs.declared.Verdict.{Verdict}
 use Rattle.connection.specs.declared.Verdict.the-variants.{Pass, NotAllowed, SequenceMissed, AckMissed}
 use Rattle.rows.specs.Rows as rows
-use Rattle.rows.specs.Rows.{Bodies, Entry, View, Outcome, Blocked, Passed, isOpening, freeEntry, fromOpener, fromAnswerer, liveMatch, vacant, VacantWhereFreeOrExpired, lowestVacant, senderOf, SenderMatches, entryWith, entryAfter, byVerdict, onEntry, openingEntry, onVacant, unmatched, onFound, onSegment, answerOf, after}
+use Rattle.rows.specs.Rows.{Bodies, Entry, View, Outcome, Blocked, Passed, isOpening, nowhere, freeEntry, fromOpener, fromAnswerer, liveMatch, vacant, VacantWhereFreeOrExpired, lowestVacant, senderOf, SenderMatches, entryWith, entryAfter, byVerdict, onEntry, openingEntry, onVacant, unmatched, onFound, onSegment, answerOf, after}
 use Rattle.rows.specs.declared.Found.{Found}
 use Rattle.rows.specs.declared.Found.the-variants.{At, Nothing}
 use Rattle.rows.proofs.Places.{found-passes, found-is-first}
@@ -81,11 +81,11 @@ module _ (B : Bodies) where
   answer-by-verdict AckMissed p now e = refl
 
   module _ (v : View B) (now side : ℕ) (k : Flow) (g : Segment) where
-    pub unmatched-not-from-side-0 : (side ≡ 0 → ⊥) → unmatched B v now side k g ≡ Blocked 11
+    pub unmatched-not-from-side-0 : (side ≡ 0 → ⊥) → unmatched B v now side k g ≡ Blocked 11 nowhere
     unfolding unmatched if_then_else_
     unmatched-not-from-side-0 h = rw (ne-eqb side 0 h)
 
-    pub unmatched-not-syn : (g .flags ≡ 2 → ⊥) → unmatched B v now side k g ≡ Blocked 11
+    pub unmatched-not-syn : (g .flags ≡ 2 → ⊥) → unmatched B v now side k g ≡ Blocked 11 nowhere
     unfolding unmatched if_then_else_
     unmatched-not-syn h = rw (ne-eqb (g .flags) 2 h, and-false (side =ᵇ 0))
 
@@ -123,7 +123,7 @@ module _ (B : Bodies) where
     -- What a call comes to: it is blocked, by a row from 11 to 15; it passes on the live match found; or it makes an entry where none was
 
     pub data Comes (o : Outcome B) : Type 0 where
-      blocks : (n : ℕ) → o ≡ Blocked n → 11 ≤ n → n ≤ 15 → Comes o
+      blocks : (n : ℕ) → o ≡ Blocked n nowhere → 11 ≤ n → n ≤ 15 → Comes o
       passes :
           (p : ℕ) → o ≡ Passed p now (entryAfter B (v .entry p) (senderOf B (v .entry p) side) g now) →
           rows.search B v now side k ≡ At p → p < v .places → now < B .deadline (v .entry p .connection) →
@@ -167,7 +167,7 @@ module _ (B : Bodies) where
 
   -- every answer but a pass changes nothing
   pub refusal-keeps : (v : View B) (o : Outcome B) → (answerOf B o ≡ 0 → ⊥) → after B v o ≡ v
-  refusal-keeps v (Blocked n) refused = refl
+  refusal-keeps v (Blocked n place) refused = refl
   refusal-keeps v (Passed p now e) refused = absurd (refused refl)
 
   -- a pass changes only the header clock and its entry

@@ -49,6 +49,10 @@ isOpening side g = (side =ᵇ 0) && (g .flags =ᵇ SYN)
 abbrev pub otherSide : ℕ → ℕ
 otherSide side = 1 - side
 
+-- "Every other answer gives place 65,535": than a pass and, by document 02, item 2, than 5 to 10, which give a byte offset
+abbrev pub nowhere : ℕ
+nowhere = 65535
+
 module _ (B : Bodies) where
   -- addresses and ports stand the opener's way round
   pub record Entry : Type 0 where
@@ -62,9 +66,10 @@ module _ (B : Bodies) where
     pub places : ℕ
     pub entry : ℕ → Entry
 
-  -- what a call comes to: its answer, document 01's number; or a pass at a place, by the clock used, with the entry that it leaves there
+  -- what a call comes to: its answer, document 01's number, and its place; or a pass at a place, by the clock used, with the entry that it
+  -- leaves there
   pub data Outcome : Type 0 where
-    Blocked : ℕ → Outcome
+    Blocked : (answer place : ℕ) → Outcome
     Passed : ℕ → ℕ → Entry → Outcome
 
   abbrev pub freeEntry : Entry
@@ -122,12 +127,12 @@ module _ (B : Bodies) where
 
   -- 12: such a SYN, but no place is free or expired; 0: the lowest that is
   abbrev pub onVacant : Found → ℕ → ℕ → Flow → Segment → Outcome
-  onVacant Nothing now side k g = Blocked 12
+  onVacant Nothing now side k g = Blocked 12 nowhere
   onVacant (At p) now side k g = Passed p now (openingEntry now side k g)
 
   -- 11: it is not SYN without ACK from side 0
   unfoldable pub unmatched : View → ℕ → ℕ → Flow → Segment → Outcome
-  unmatched v now side k g = if isOpening side g then onVacant (lowestVacant v now) now side k g else Blocked 11
+  unmatched v now side k g = if isOpening side g then onVacant (lowestVacant v now) now side k g else Blocked 11 nowhere
 
   -- Rows 13, 14, 15 and 0: one does
 
@@ -151,9 +156,9 @@ module _ (B : Bodies) where
 
   -- 13, 14 and 15, or the pass
   abbrev pub byVerdict : Verdict → Outcome → Outcome
-  byVerdict NotAllowed pass = Blocked (verdictNumber NotAllowed)
-  byVerdict SequenceMissed pass = Blocked (verdictNumber SequenceMissed)
-  byVerdict AckMissed pass = Blocked (verdictNumber AckMissed)
+  byVerdict NotAllowed pass = Blocked (verdictNumber NotAllowed) nowhere
+  byVerdict SequenceMissed pass = Blocked (verdictNumber SequenceMissed) nowhere
+  byVerdict AckMissed pass = Blocked (verdictNumber AckMissed) nowhere
   byVerdict Pass pass = pass
 
   -- on the entry at place p
@@ -176,19 +181,15 @@ module _ (B : Bodies) where
   -- What an outcome gives and leaves
 
   abbrev pub answerOf : Outcome → ℕ
-  answerOf (Blocked n) = n
+  answerOf (Blocked n place) = n
   answerOf (Passed p now e) = 0
 
   -- a pass changes only the header clock ("A pass stores it in the header": the clock used) and that entry; every other answer changes nothing
   abbrev pub after : View → Outcome → View
-  after v (Blocked n) = v
+  after v (Blocked n place) = v
   after v (Passed p now e) = record { clock = now; places = v .places; entry = λ q. if q =ᵇ p then e else v .entry q }
-
--- the place of every answer but a pass
-abbrev pub nowhere : ℕ
-nowhere = 65535
 
 -- a view's places have these numbers in the table
 abbrev pub placeBy : {B : Bodies} → (ℕ → ℕ) → Outcome B → ℕ
-placeBy number (Blocked n) = nowhere
+placeBy number (Blocked n place) = place
 placeBy number (Passed p now e) = number p

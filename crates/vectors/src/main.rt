@@ -8,7 +8,7 @@
 //   w SS CCCCCCCCCCCCCCCC NNNNN     write the buffer as a trace line into NNNNN bytes, with this side and clock
 //   s                               sum the buffer, of at most 65,535 bytes
 // and p, r, w and s empty the buffer and print one of
-//   ANSWER                          p, refused
+//   ANSWER OFFSET                   p, refused
 //   0 SOURCE DESTINATION SPORT DPORT SEQ ACK WINDOW FLAGS OCTETS
 //   ANSWER SIDE CLOCK LENGTH OFFSET HEX
 //   ANSWER LENGTH TEXT
@@ -147,7 +147,10 @@ fn read_packet(bytes: &[u8], out: &mut Output, used: usize) -> usize
 {
     let read = packet::read_ipv4(bytes);
     match read {
-        PacketRead::Refused(cause) => script::put_decimal(out, used, cause.number() as u64),
+        PacketRead::Refused(cause, offset) => {
+            let fields = [offset as u64];
+            script::put_fields(out, used, cause.number() as u64, &fields)
+        }
         PacketRead::Tcp(flow, segment) => put_segment(out, used, flow, segment),
     }
 }

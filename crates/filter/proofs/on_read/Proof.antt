@@ -1,4 +1,4 @@
--- A packet refused blocks by its cause's number; any other's segment goes on to rows 11 to 15 and 0.
+-- A packet refused blocks by its cause's number, at its offset; any other's segment goes on to rows 11 to 15 and 0.
 use Prim.Native.Nat.{ℕ}
 use mathlib.Core.Path.{sym, ap, _∙_}
 use Rattle.packet.specs.declared.PacketRead.{PacketRead}
@@ -23,8 +23,8 @@ enum-known-read c = search needs
 number-requires : tie.Need-number-requires
 number-requires c κs = search needs
 
-blocked-requires : tie.Need-blocked-requires
-blocked-requires c κs = search needs
+blocked-at-requires : tie.Need-blocked-at-requires
+blocked-at-requires c κs = search needs
 
 enum-known-read-2 : tie.Need-enum-known-read-2
 enum-known-read-2 c = search needs
@@ -35,8 +35,8 @@ on-segment-requires c κs = search needs
 returns : tie.Need-returns
 returns c =
     let k = c .before .before .before in
-    c .blocked .ensures
-    ∙ ap (λ (n : ℕ). decisionOf (Blocked n)) (c .before .number .ensures)
+    c .blocked-at .ensures
+    ∙ ap (λ (n : ℕ). decisionOf (Blocked n (k .read .given .0 .1 .0))) (c .before .number .ensures)
     ∙ ap (λ (r : PacketRead). decisionOf (comes (k .before .before .before) r)) (sym (k .read .given .1))
 
 returns-2 : tie.Need-returns-2
@@ -50,7 +50,7 @@ on-read-spec =
     (tie.spec
     enum-known-read
     number-requires
-    blocked-requires
+    blocked-at-requires
     enum-known-read-2
     on-segment-requires
     returns

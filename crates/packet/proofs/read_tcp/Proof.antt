@@ -1,47 +1,53 @@
 -- Row 9 by its tests, row 10 by what was found of the flags.
 use Prim.Native.Nat.{_+_}
-use mathlib.Core.Path.{sym, _∙_}
+use mathlib.Core.Path.{sym, ap, _∙_}
 use native.Mathlib.Omega.{arith}
 use Rattle.choice.proofs.Choice.{if-<, if-<-not}
-use Rattle.packet.specs.Read.{rows9to10}
-use Rattle.packet.specs.declared.PacketRead.the-variants.{Tcp}
+use Rattle.packet.specs.Read.{causeOffset, rows9to10}
+use Rattle.packet.specs.declared.Cause.the-variants.{TcpShort, OffsetBelowFive, OffsetPastTotal}
+use Rattle.packet.specs.declared.PacketRead.the-variants.{Refused, Tcp}
+use Rattle.packet.proofs.Flags.{flags-offset}
 use Rattle.packet.proofs.Read.{refused-row10, past-row10}
 use borrow.Author.Needs.{needs}
 use Rattle.packet.proofs.read_tcp.Statement.{statement}
 use Rattle.packet.proofs.read_tcp.Tie as tie
+
+add-data-offset-at : tie.Need-add-data-offset-at
+add-data-offset-at c = search needs
+
+add-flags-at : tie.Need-add-flags-at
+add-flags-at c = search needs
 
 sub-if1 : tie.Need-sub-if1
 sub-if1 c = search needs
 
 returns : tie.Need-returns
 unfolding rows9to10
-returns c = sym (if-< _ _ (c .if1 .taken))
+returns c = ap (Refused TcpShort) (omega arith) ∙ sym (if-< _ _ (c .if1 .taken))
 
-add-offset : tie.Need-add-offset
-add-offset c = search needs
+shared-slice-read-data-offset : tie.Need-shared-slice-read-data-offset
+shared-slice-read-data-offset c = search needs
 
-shared-slice-read-offset : tie.Need-shared-slice-read-offset
-shared-slice-read-offset c = search needs
+cast-data-offset : tie.Need-cast-data-offset
+cast-data-offset c = omega (arith, c .shared-slice-known2 .given (c .before .before .before .args .h + 12))
 
-cast-offset : tie.Need-cast-offset
-cast-offset c = omega (arith, c .shared-slice-known2 .given (c .before .before .before .args .h + 12))
-
-mul-offset : tie.Need-mul-offset
-mul-offset c = omega (arith, c .shared-slice-known2 .given (c .before .before .before .args .h + 12))
+mul-data-offset : tie.Need-mul-data-offset
+mul-data-offset c = omega (arith, c .shared-slice-known2 .given (c .before .before .before .args .h + 12))
 
 returns-2 : tie.Need-returns-2
 unfolding rows9to10
-returns-2 c = sym (if-<-not _ _ (c .before .before .if1 .left) ∙ if-< _ _ (c .if2 .taken))
+returns-2 c =
+    ap (Refused OffsetBelowFive) (omega arith)
+    ∙ sym (if-<-not _ _ (c .before .before .if1 .left) ∙ if-< _ _ (c .if2 .taken))
 
 sub-if3 : tie.Need-sub-if3
 sub-if3 c = search needs
 
 returns-3 : tie.Need-returns-3
 unfolding rows9to10
-returns-3 c = sym (if-<-not _ _ (c .before .before .before .if1 .left) ∙ if-<-not _ _ (c .before .if2 .left) ∙ if-< _ _ (c .if3 .taken))
-
-add-check-flags : tie.Need-add-check-flags
-add-check-flags c = search needs
+returns-3 c =
+    ap (Refused OffsetPastTotal) (omega arith)
+    ∙ sym (if-<-not _ _ (c .before .before .before .if1 .left) ∙ if-<-not _ _ (c .before .if2 .left) ∙ if-< _ _ (c .if3 .taken))
 
 shared-slice-read-check-flags : tie.Need-shared-slice-read-check-flags
 shared-slice-read-check-flags c = search needs
@@ -73,8 +79,10 @@ returns-4 c =
     let m = k .before .before in
     let a = m .before .before .before .before .before .args in
     let refused = refused-row10 (a .version) (a .addresses) (a .s .now) (a .h) (a .t) in
+    let cause = c .before .check .given .0 .0 in
     let bad = sym (k .check-flags .ensures) ∙ c .before .check .given .1 in
-    sym (refused (m .before .before .before .if1 .left) (m .before .if2 .left) (m .if3 .left) _ bad)
+    ap (Refused cause) {y = causeOffset (a .h) cause} (omega (arith, flags-offset (a .h) _ _ cause bad))
+    ∙ sym (refused (m .before .before .before .if1 .left) (m .before .if2 .left) (m .if3 .left) _ bad)
 
 returns-5 : tie.Need-returns-5
 returns-5 c =
@@ -90,16 +98,16 @@ pub read-tcp-spec : {M : Type 1} → statement M
 read-tcp-spec =
     tie.close
     (tie.spec
+    add-data-offset-at
+    add-flags-at
     sub-if1
     returns
-    add-offset
-    shared-slice-read-offset
-    cast-offset
-    mul-offset
+    shared-slice-read-data-offset
+    cast-data-offset
+    mul-data-offset
     returns-2
     sub-if3
     returns-3
-    add-check-flags
     shared-slice-read-check-flags
     sub-check-flags
     sub-check-flags-2
