@@ -1,12 +1,14 @@
 //! The filter: one call (document 01, "What the gate says"). "One call takes
 //! side, clock, table, packet. It gives an answer and a place. The first line
-//! that applies wins, top to bottom."
+//! that applies wins, top to bottom." Where the packet reader refuses, the place
+//! is the reader's offset (document 02, item 2).
 
 use crate::connection::{self, Connection};
 use crate::packet::{self, ACK, SYN};
 use crate::table::{self, Entry, Names};
 
-/// "Every other answer gives place 65,535"
+/// "Every other answer gives place 65,535": every one but a pass and, by
+/// document 02, item 2, answers 5 to 10.
 pub const NO_PLACE: u32 = 65_535;
 
 /// "otherwise: passed"
@@ -34,6 +36,27 @@ struct Pass {
     entry: Entry,
 }
 
+/// What a refusal gives.
+struct Refusal {
+    answer: u32,
+    place: u32,
+}
+
+/// "For answers 5 to 10 the place becomes a byte offset"
+fn at_offset(refusal: packet::Refusal) -> Refusal {
+    Refusal {
+        answer: refusal.answer,
+        place: refusal.offset,
+    }
+}
+
+fn without_place(answer: u32) -> Refusal {
+    Refusal {
+        answer,
+        place: NO_PLACE,
+    }
+}
+
 /// Gives the answer and the place.
 pub fn filter(side: u32, clock: u64, table: &mut [u8], packet: &[u8]) -> (u32, u32) {
     match decide(side, clock, table, packet) {
@@ -41,17 +64,23 @@ pub fn filter(side: u32, clock: u64, table: &mut [u8], packet: &[u8]) -> (u32, u
             table::store(table, pass.clock_used, pass.place, &pass.entry);
             (PASSED, pass.place as u32)
         }
-        Err(answer) => (answer, NO_PLACE),
+        Err(refusal) => (refusal.answer, refusal.place),
     }
 }
 
 /// The rows in their order. The table is only read: a refusal "changes no byte
 /// of the table".
-fn decide(side: u32, clock: u64, table: &[u8], packet: &[u8]) -> Result<Pass, u32> {
+fn decide(side: u32, clock: u64, table: &[u8], packet: &[u8]) -> Result<Pass, Refusal> {
+    let side = check(side, clock, table).map_err(without_place)?;
+    let segment = packet::read(packet).map_err(at_offset)?;
+    weigh(side, clock, table, &segment).map_err(without_place)
+}
+
+/// Rows 1 to 4: the side, if nothing beside the packet refuses the call.
+fn check(side: u32, clock: u64, table: &[u8]) -> Result<u8, u32> {
     if side > 1 {
         return Err(BAD_SIDE);
     }
-    let side = side as u8;
     if clock >= table::CLOCK_LIMIT {
         return Err(BAD_CLOCK);
     }
@@ -61,15 +90,19 @@ fn decide(side: u32, clock: u64, table: &[u8], packet: &[u8]) -> Result<Pass, u3
     if !table::is_sound(table) {
         return Err(UNSOUND_TABLE);
     }
-    let segment = packet::read(packet)?;
+    Ok(side as u8)
+}
+
+/// Rows 11 to 15 and 0.
+fn weigh(side: u8, clock: u64, table: &[u8], segment: &packet::Segment) -> Result<Pass, u32> {
     // "Clock used: the larger of the one given and the header's."
     let clock_used = clock.max(table::clock(table));
-    let (place, entry) = match table::first_live_match(table, side, &names(&segment), clock_used) {
+    let (place, entry) = match table::first_live_match(table, side, &names(segment), clock_used) {
         Some((place, sender)) => (
             place,
-            follow(&table::entry(table, place), sender, &segment, clock_used)?,
+            follow(&table::entry(table, place), sender, segment, clock_used)?,
         ),
-        None => open(table, side, &segment, clock_used)?,
+        None => open(table, side, segment, clock_used)?,
     };
     Ok(Pass {
         clock_used,

@@ -1,7 +1,9 @@
 //! Reads an IPv4 packet that holds one TCP segment.
 //!
-//! The refusals are answers 5 to 10 of document 01. The IP header is laid out
-//! as in RFC 791, section 3.1, the TCP header as in RFC 9293, section 3.1.
+//! The refusals are answers 5 to 10 of document 01, each with the offset that
+//! document 02, item 2, gives it: "The first cause in document 01's order
+//! counts." The IP header is laid out as in RFC 791, section 3.1, the TCP
+//! header as in RFC 9293, section 3.1.
 
 use crate::checksum::ones_complement_sum;
 
@@ -10,20 +12,51 @@ pub const SYN: u8 = 0x02;
 pub const RST: u8 = 0x04;
 pub const ACK: u8 = 0x10;
 
-/// "under 20 bytes; version not 4; header length under 20; total length below
-/// header length or above the bytes given"
-const BAD_IP_HEADER: u32 = 5;
-/// "the header's ones' complement 16-bit sum is not ffff"
-const BAD_HEADER_SUM: u32 = 6;
-/// "more-fragments set or fragment offset not 0"
-const FRAGMENT: u32 = 7;
-/// "protocol is not 6"
-const NOT_TCP: u32 = 8;
-/// "under 20 bytes follow the IP header within total length; TCP data offset
-/// under 5 words or past total length"
-const BAD_TCP_HEADER: u32 = 9;
-/// "SYN with FIN or RST; none of SYN, ACK, RST; SYN with payload"
-const BAD_FLAGS: u32 = 10;
+/// Why a packet is refused, and where it broke.
+#[derive(Clone, Copy, Debug, PartialEq, Eq)]
+pub struct Refusal {
+    /// 5 to 10.
+    pub answer: u32,
+    /// In bytes from the packet's first one.
+    pub offset: u32,
+}
+
+/// "under 20 bytes; version not 4; header length under 20":
+/// "5: 0 for the first three causes"
+const BAD_IP_HEADER: Refusal = refusal(5, 0);
+/// "total length below header length or above the bytes given":
+/// "2 for total length"
+const BAD_TOTAL_LENGTH: Refusal = refusal(5, 2);
+/// "the header's ones' complement 16-bit sum is not ffff": "6: 10"
+const BAD_HEADER_SUM: Refusal = refusal(6, 10);
+/// "more-fragments set or fragment offset not 0": "7: 6"
+const FRAGMENT: Refusal = refusal(7, 6);
+/// "protocol is not 6": "8: 9"
+const NOT_TCP: Refusal = refusal(8, 9);
+
+// What is wrong with the segment is said relative to its first byte, which is
+// at "h the IP header length": `after` adds it.
+
+/// "under 20 bytes follow the IP header within total length":
+/// "9: h if under 20 bytes follow"
+const SHORT_SEGMENT: Refusal = refusal(9, 0);
+/// "TCP data offset under 5 words or past total length": "else h + 12"
+const BAD_DATA_OFFSET: Refusal = refusal(9, 12);
+/// "SYN with FIN or RST; none of SYN, ACK, RST; SYN with payload":
+/// "10: h + 13"
+const BAD_FLAGS: Refusal = refusal(10, 13);
+
+const fn refusal(answer: u32, offset: u32) -> Refusal {
+    Refusal { answer, offset }
+}
+
+impl Refusal {
+    /// The same with its offset counted from the first byte of the IP header,
+    /// of 60 bytes at most, that stands before.
+    fn after(self, ip_header: &[u8]) -> Refusal {
+        refusal(self.answer, self.offset + ip_header.len() as u32)
+    }
+}
 
 /// Without options, either header has 20 bytes.
 const SHORTEST_HEADER: usize = 20;
@@ -51,10 +84,10 @@ pub struct Segment {
     pub octets: u32,
 }
 
-/// Gives the segment, or the answer that refuses the packet: "The first line
-/// that applies wins, top to bottom."
-pub fn read(bytes: &[u8]) -> Result<Segment, u32> {
-    let (ip, ip_payload) = split_ip(bytes).ok_or(BAD_IP_HEADER)?;
+/// Gives the segment, or what refuses the packet: "The first line that applies
+/// wins, top to bottom."
+pub fn read(bytes: &[u8]) -> Result<Segment, Refusal> {
+    let (ip, ip_payload) = split_ip(bytes)?;
     if ones_complement_sum(ip) != 0xffff {
         return Err(BAD_HEADER_SUM);
     }
@@ -64,10 +97,10 @@ pub fn read(bytes: &[u8]) -> Result<Segment, u32> {
     if ip[9] != TCP_PROTOCOL {
         return Err(NOT_TCP);
     }
-    let (tcp, payload) = split_tcp(ip_payload).ok_or(BAD_TCP_HEADER)?;
+    let (tcp, payload) = split_tcp(ip_payload).map_err(|refusal| refusal.after(ip))?;
     let flags = tcp[13] & (FIN | SYN | RST | ACK);
     if !flags_allowed(flags, payload) {
-        return Err(BAD_FLAGS);
+        return Err(BAD_FLAGS.after(ip));
     }
     Ok(Segment {
         source: u32_at(ip, 12),
@@ -84,31 +117,33 @@ pub fn read(bytes: &[u8]) -> Result<Segment, u32> {
 
 /// Parts the packet into its IP header and what follows it up to total length:
 /// "Bytes past total length are ignored."
-fn split_ip(bytes: &[u8]) -> Option<(&[u8], &[u8])> {
+fn split_ip(bytes: &[u8]) -> Result<(&[u8], &[u8]), Refusal> {
     if bytes.len() < SHORTEST_HEADER || bytes[0] >> 4 != IP_VERSION {
-        return None;
+        return Err(BAD_IP_HEADER);
     }
     let header_length = usize::from(bytes[0] & 0x0f) * WORD;
     if header_length < SHORTEST_HEADER {
-        return None;
+        return Err(BAD_IP_HEADER);
     }
+    // A header length past the bytes given is no cause of its own: total length
+    // is then below the one or above the other.
     let total_length = usize::from(u16_at(bytes, 2));
     if total_length < header_length || total_length > bytes.len() {
-        return None;
+        return Err(BAD_TOTAL_LENGTH);
     }
-    Some(bytes[..total_length].split_at(header_length))
+    Ok(bytes[..total_length].split_at(header_length))
 }
 
 /// Parts the segment into its TCP header with options and the payload.
-fn split_tcp(bytes: &[u8]) -> Option<(&[u8], &[u8])> {
+fn split_tcp(bytes: &[u8]) -> Result<(&[u8], &[u8]), Refusal> {
     if bytes.len() < SHORTEST_HEADER {
-        return None;
+        return Err(SHORT_SEGMENT);
     }
     let data_offset = usize::from(bytes[12] >> 4) * WORD;
     if data_offset < SHORTEST_HEADER || data_offset > bytes.len() {
-        return None;
+        return Err(BAD_DATA_OFFSET);
     }
-    Some(bytes.split_at(data_offset))
+    Ok(bytes.split_at(data_offset))
 }
 
 /// "SYN with FIN or RST; none of SYN, ACK, RST; SYN with payload" are refused.
@@ -150,5 +185,54 @@ mod tests {
         assert!(!flags_allowed(FIN, &[]));
         assert!(flags_allowed(RST | FIN, &[0]));
         assert_eq!(octets(RST | FIN, &[0, 0]), 3);
+    }
+
+    #[test]
+    fn where_an_ip_header_broke() {
+        let mut header = [0; 40];
+        let mut answer = |first: u8, total_length: u8, given: usize| {
+            header[0] = first;
+            header[3] = total_length;
+            split_ip(&header[..given]).err()
+        };
+        let (first_three, total_length) = (Some(refusal(5, 0)), Some(refusal(5, 2)));
+        // One cause, with the others at their bounds.
+        assert_eq!(answer(0x45, 20, 20), None);
+        assert_eq!(answer(0x4a, 40, 40), None);
+        assert_eq!(answer(0x45, 20, 0), first_three);
+        assert_eq!(answer(0x45, 20, 19), first_three);
+        assert_eq!(answer(0x35, 20, 20), first_three);
+        assert_eq!(answer(0x44, 20, 20), first_three);
+        assert_eq!(answer(0x45, 19, 20), total_length);
+        assert_eq!(answer(0x45, 21, 20), total_length);
+        // Total length together with one of the first three.
+        assert_eq!(answer(0x45, 18, 19), first_three);
+        assert_eq!(answer(0x55, 41, 40), first_three);
+        assert_eq!(answer(0x44, 15, 40), first_three);
+        assert_eq!(answer(0x44, 41, 40), first_three);
+        // A header length past the bytes given.
+        assert_eq!(answer(0x4f, 40, 40), total_length);
+        assert_eq!(answer(0x4f, 59, 40), total_length);
+        assert_eq!(answer(0x4f, 60, 40), total_length);
+    }
+
+    #[test]
+    fn where_a_tcp_header_broke() {
+        let mut header = [0; 60];
+        let mut answer = |words: u8, length: usize| {
+            header[12] = words << 4;
+            let split = split_tcp(&header[..length]);
+            split.err().map(|refusal| refusal.after(&[0; 24]))
+        };
+        for words in 0..=15 {
+            assert_eq!(answer(words, 0), Some(refusal(9, 24)));
+            assert_eq!(answer(words, 19), Some(refusal(9, 24)));
+        }
+        assert_eq!(answer(4, 20), Some(refusal(9, 36)));
+        assert_eq!(answer(5, 20), None);
+        assert_eq!(answer(6, 23), Some(refusal(9, 36)));
+        assert_eq!(answer(6, 24), None);
+        assert_eq!(answer(15, 59), Some(refusal(9, 36)));
+        assert_eq!(answer(15, 60), None);
     }
 }

@@ -22,7 +22,9 @@ pub struct TraceRun {
     lines: u64,
 }
 
-/// What a line gave: the answer, and the place or offset.
+/// What a line gave: the answer, and the place or offset. By document 02, item
+/// 2, the place of answers 5 to 10 is an offset in the packet: "all above hand
+/// it on, the program prints it".
 #[derive(Clone, Copy, Debug, PartialEq, Eq)]
 pub struct LineAnswer {
     pub answer: u32,
@@ -171,6 +173,65 @@ mod tests {
         assert_eq!(printed(EXAMPLE.trim_end().as_bytes()), expected);
     }
 
+    /// The example's first packet, refused by each of answers 5 to 10: the
+    /// offset is printed, and `-` only for the others.
+    #[test]
+    fn refused_packets() {
+        let packets = [
+            // No more than its first byte; version 6; four words of header.
+            ("45", "5 0"),
+            (
+                "6500002800000000400666ce0a0000010a000002040000500000006400000000500203e893440000",
+                "5 0",
+            ),
+            (
+                "4400002800000000400666ce0a0000010a000002040000500000006400000000500203e893440000",
+                "5 0",
+            ),
+            // Total length 41, then 19.
+            (
+                "4500002900000000400666ce0a0000010a000002040000500000006400000000500203e893440000",
+                "5 2",
+            ),
+            (
+                "4500001300000000400666ce0a0000010a000002040000500000006400000000500203e893440000",
+                "5 2",
+            ),
+            // The sum one up.
+            (
+                "4500002800000000400666cf0a0000010a000002040000500000006400000000500203e893440000",
+                "6 10",
+            ),
+            // Fragment offset 1, protocol 17, total length 39: the sum follows.
+            (
+                "4500002800000001400666cd0a0000010a000002040000500000006400000000500203e893440000",
+                "7 6",
+            ),
+            (
+                "4500002800000000401166c30a0000010a000002040000500000006400000000500203e893440000",
+                "8 9",
+            ),
+            (
+                "4500002700000000400666cf0a0000010a000002040000500000006400000000500203e893440000",
+                "9 20",
+            ),
+            // Data offset 4 words, SYN with FIN.
+            (
+                "4500002800000000400666ce0a0000010a000002040000500000006400000000400203e893440000",
+                "9 32",
+            ),
+            (
+                "4500002800000000400666ce0a0000010a000002040000500000006400000000500303e893440000",
+                "10 33",
+            ),
+        ];
+        for (packet, expected) in packets {
+            let line = format!("0 000000000000 {packet}\n");
+            let expected = format!("{expected}\npassed 0 of 1\n");
+            assert_eq!(printed(line.as_bytes()), expected);
+        }
+    }
+
     #[test]
     fn empty_lines_and_the_last_one() {
         assert_eq!(printed(b""), "passed 0 of 0\n");
@@ -187,18 +248,19 @@ mod tests {
 
     #[test]
     fn over_long_lines() {
-        // The longest legal line: an IPv4 header that asks for more bytes.
+        // The longest legal line: an IPv4 header that asks for more bytes, in
+        // its total length at offset 2.
         let longest = format!("0 000000000000 {}", "45".repeat(2048));
         assert_eq!(longest.len(), 4_111);
-        assert_eq!(printed(longest.as_bytes()), "5 -\npassed 0 of 1\n");
+        assert_eq!(printed(longest.as_bytes()), "5 2\npassed 0 of 1\n");
         for more in [1, 2, 4_111, 4_112, 300_000] {
             let input = format!("{longest}{}", "x".repeat(more));
             assert_eq!(printed(input.as_bytes()), "21 -\npassed 0 of 1\n");
             let between = format!("{input}\n{longest}\n{input}\n\n");
-            let expected = "21 -\n5 -\n21 -\n22 0\npassed 0 of 4\n";
+            let expected = "21 -\n5 2\n21 -\n22 0\npassed 0 of 4\n";
             assert_eq!(printed(between.as_bytes()), expected);
             let before_the_last = format!("{input}\n{longest}");
-            let expected = "21 -\n5 -\npassed 0 of 2\n";
+            let expected = "21 -\n5 2\npassed 0 of 2\n";
             assert_eq!(printed(before_the_last.as_bytes()), expected);
             // Nothing follows its newline, so no line does.
             let ended = format!("{input}\n");

@@ -2,6 +2,8 @@
 //! bytes on every machine.
 
 mod calls;
+#[cfg(test)]
+mod causes;
 mod draft;
 mod honest;
 mod lines;

@@ -1,18 +1,20 @@
 //! Test vectors for the packet reader, the trace line reader and writer and the
 //! ones' complement sum.
 //!
-//! The expected results were worked out by hand from document 01 and RFC 1071
-//! and stand in the tables as the lines that a run prints. The program checks
-//! that this library agrees with all of them, then prints the input script
-//! (argument `stdin`) or the expected output (argument `stdout`).
+//! The expected results were worked out by hand from document 01, document 02,
+//! item 2, and RFC 1071 and stand in the tables as the lines that a run prints.
+//! The program checks that this library agrees with all of them, then prints the
+//! input script (argument `stdin`) or the expected output (argument `stdout`).
 //!
 //! The script, each line ended by a newline; a buffer starts empty:
 //!
 //! - `# text`: echoed to the output unchanged.
 //! - `b HEX`: appends bytes, at most 2,000, to the buffer.
 //! - `f BB NNNNN`: appends that many copies of the byte `BB`, in decimal.
-//! - `p`: reads the buffer as a packet. Prints the answer 5 to 10 alone, or
-//!   `0 SOURCE DESTINATION SPORT DPORT SEQ ACK WINDOW FLAGS OCTETS`.
+//! - `p`: reads the buffer as a packet. Prints `ANSWER OFFSET` for a refused
+//!   one, answer 5 to 10 and where it broke, else
+//!   `0 SOURCE DESTINATION SPORT DPORT SEQ ACK WINDOW FLAGS OCTETS`, all in
+//!   decimal.
 //! - `r NNNNN`: reads the buffer as a trace line, with an output of that many
 //!   bytes, all 2e before. Prints `ANSWER SIDE CLOCK LENGTH OFFSET OUT`, `OUT`
 //!   being the whole output in hex.
@@ -126,7 +128,7 @@ fn hex(bytes: &[u8]) -> String {
 
 fn run_packet(buffer: &[u8]) -> String {
     match packet::read(buffer) {
-        Err(answer) => answer.to_string(),
+        Err(refusal) => format!("{} {}", refusal.answer, refusal.offset),
         Ok(segment) => format!(
             "0 {} {} {} {} {} {} {} {} {}",
             segment.source,
@@ -230,6 +232,23 @@ mod tests {
         for vector in tables.iter().flatten() {
             check(vector);
             assert!(labels.insert(&vector.label), "{}: twice", vector.label);
+        }
+    }
+
+    /// Every place where a packet can break is among the expected ones: "with h
+    /// the IP header length, 9: h if under 20 bytes follow, else h + 12; 10:
+    /// h + 13".
+    #[test]
+    fn every_offset_is_expected() {
+        let vectors = packets::vectors();
+        let has = |line: String| vectors.iter().any(|vector| vector.expected == line);
+        for line in ["5 0", "5 2", "6 10", "7 6", "8 9"] {
+            assert!(has(line.to_string()), "{line}");
+        }
+        for h in (20..=60).step_by(4) {
+            assert!(has(format!("9 {h}")), "{h}");
+            assert!(has(format!("9 {}", h + 12)), "{h}");
+            assert!(has(format!("10 {}", h + 13)), "{h}");
         }
     }
 

@@ -77,13 +77,7 @@ impl Draft {
         packet.extend([0, 0, 0, 0, 64, 6, 0, 0]);
         packet.extend(addresses.0.to_be_bytes());
         packet.extend(addresses.1.to_be_bytes());
-        let sum = packet.chunks(2).fold(0u32, |sum, word| {
-            sum + u32::from(word[0]) * 256 + u32::from(word[1])
-        });
-        // Two carries at most: ten words of 16 bits.
-        let sum = (sum >> 16) + (sum & 0xffff);
-        let sum = (sum >> 16) + (sum & 0xffff);
-        packet[10..12].copy_from_slice(&(!sum as u16).to_be_bytes());
+        write_sum(&mut packet);
         packet.extend(ports.0.to_be_bytes());
         packet.extend(ports.1.to_be_bytes());
         packet.extend(self.sequence.to_be_bytes());
@@ -99,7 +93,8 @@ fn fresh(places: usize) -> Vec<u8> {
     vec![0; ENTRY * (places + 1)]
 }
 
-/// The call; a refusal must change no byte.
+/// The call; a refusal must change no byte, and only answers 5 to 10 have a
+/// place.
 fn call(side: u32, clock: u64, table: &mut [u8], packet: &[u8]) -> (u32, u32) {
     let before = table.to_vec();
     let (answer, place) = filter(side, clock, table, packet);
@@ -110,7 +105,7 @@ fn call(side: u32, clock: u64, table: &mut [u8], packet: &[u8]) -> (u32, u32) {
         assert_eq!(table::clock(table), clock.max(table::clock(&before)));
         assert!(table::is_sound(table));
     } else {
-        assert_eq!(place, NO_PLACE);
+        assert_eq!(place != NO_PLACE, (5..=10).contains(&answer));
         assert_eq!(table, before);
     }
     (answer, place)
@@ -276,16 +271,77 @@ fn answers_1_to_4_at_their_bounds() {
 fn the_first_row_wins() {
     let syn = bytes(EXAMPLE[0].2);
     let limit = 1 << 48;
-    assert_eq!(call(2, limit, &mut [1; 5], &[]).0, 1);
-    assert_eq!(call(1, limit, &mut [1; 5], &[]).0, 2);
-    assert_eq!(call(1, 0, &mut [1; 5], &[]).0, 3);
-    assert_eq!(call(1, 0, &mut [1; 128], &[]).0, 4);
-    assert_eq!(call(1, 0, &mut [0; 128], &[]).0, 5);
+    assert_eq!(call(2, limit, &mut [1; 5], &[]), (1, NO_PLACE));
+    assert_eq!(call(1, limit, &mut [1; 5], &[]), (2, NO_PLACE));
+    assert_eq!(call(1, 0, &mut [1; 5], &[]), (3, NO_PLACE));
+    assert_eq!(call(1, 0, &mut [1; 128], &[]), (4, NO_PLACE));
+    assert_eq!(call(1, 0, &mut [0; 128], &[]), (5, 0));
     let mut unsummed = syn.clone();
     unsummed[8] ^= 1;
     unsummed[9] = 17;
-    assert_eq!(call(1, 0, &mut [0; 128], &unsummed).0, 6);
-    assert_eq!(call(1, 0, &mut [0; 128], &syn).0, 11);
+    assert_eq!(call(1, 0, &mut [0; 128], &unsummed), (6, 10));
+    assert_eq!(call(1, 0, &mut [0; 128], &syn), (11, NO_PLACE));
+}
+
+/// "For answers 5 to 10 the place becomes a byte offset", also with longer IP
+/// headers and where the connection is known.
+#[test]
+fn the_place_of_answers_5_to_10() {
+    for h in [20, 24, 60] {
+        let packet = with_ip_header(&bytes(EXAMPLE[2].2), h);
+        let given = |packet: &[u8]| call(0, 200, &mut state_k(), packet);
+        // With one byte changed and the sum made right again.
+        let changed = |at: usize, byte: u8| {
+            let mut packet = packet.clone();
+            packet[at] = byte;
+            write_sum(&mut packet);
+            given(&packet)
+        };
+        let past_header = |bytes: u32| h as u32 + bytes;
+        assert_eq!(changed(8, 63), (15, NO_PLACE));
+        assert_eq!(given(&packet[..19]), (5, 0));
+        assert_eq!(changed(0, 0x65), (5, 0));
+        assert_eq!(changed(0, 0x44), (5, 0));
+        assert_eq!(changed(3, h as u8 - 1), (5, 2));
+        assert_eq!(changed(3, h as u8 + 21), (5, 2));
+        let mut unsummed = packet.clone();
+        unsummed[11] ^= 1;
+        assert_eq!(given(&unsummed), (6, 10));
+        assert_eq!(changed(6, 0x20), (7, 6));
+        assert_eq!(changed(7, 1), (7, 6));
+        assert_eq!(changed(9, 17), (8, 9));
+        assert_eq!(changed(3, h as u8), (9, past_header(0)));
+        assert_eq!(changed(3, h as u8 + 19), (9, past_header(0)));
+        assert_eq!(changed(h + 12, 0x40), (9, past_header(12)));
+        assert_eq!(changed(h + 12, 0x60), (9, past_header(12)));
+        for flags in [SYN | FIN, SYN | RST, 0, FIN] {
+            assert_eq!(changed(h + 13, flags), (10, past_header(13)));
+        }
+    }
+}
+
+/// The packet, which has no IP options, with a header of `length` bytes.
+fn with_ip_header(packet: &[u8], length: usize) -> Vec<u8> {
+    let options = length - 20;
+    let mut packet = packet.to_vec();
+    packet.splice(20..20, vec![1; options]);
+    packet[0] = 0x40 | (length / 4) as u8;
+    packet[3] += options as u8;
+    write_sum(&mut packet);
+    packet
+}
+
+/// Makes the sum right for the header length that the packet states.
+fn write_sum(packet: &mut [u8]) {
+    let length = 4 * usize::from(packet[0] & 0x0f);
+    packet[10..12].fill(0);
+    let mut sum = packet[..length].chunks(2).fold(0u32, |sum, word| {
+        sum + u32::from(word[0]) * 256 + u32::from(word[1])
+    });
+    while sum > 0xffff {
+        sum = (sum >> 16) + (sum & 0xffff);
+    }
+    packet[10..12].copy_from_slice(&(!sum as u16).to_be_bytes());
 }
 
 /// A change to one field of an entry in a sound table makes it unsound, where

@@ -118,6 +118,7 @@ mod tests {
     use super::*;
     use crate::filter::{filter, PASSED};
     use crate::table;
+    use crate::traffic::causes::Seen;
     use std::collections::BTreeSet;
 
     #[test]
@@ -128,6 +129,21 @@ mod tests {
             counts[answer as usize] += 1;
         }
         assert!(counts.iter().all(|&count| count >= 4), "{counts:?}");
+    }
+
+    #[test]
+    fn every_cause_occurs() {
+        let mut seen = Seen::default();
+        let mut empty = 0;
+        for mut call in calls(1, 20_000) {
+            let given = filter(call.side, call.clock, &mut call.table, &call.packet);
+            if (5..=10).contains(&given.0) {
+                seen.refused(&call.packet, given);
+                empty += u32::from(call.packet.is_empty());
+            }
+        }
+        seen.check(8);
+        assert!(empty >= 4, "{empty}");
     }
 
     /// What only a table filled up to its last place can show.

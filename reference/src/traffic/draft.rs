@@ -31,6 +31,21 @@ impl Draft {
     /// options, payload, checksum of the segment, bytes past total length.
     pub fn packet(&self, random: &mut Random) -> Vec<u8> {
         let ip_words = words(random);
+        self.packet_with_header(ip_words, random)
+    }
+
+    /// The same to be spoilt: where it then breaks follows from the length of
+    /// the IP header, so half of these have options.
+    pub fn packet_to_spoil(&self, random: &mut Random) -> Vec<u8> {
+        let ip_words = if random.once_in(2) {
+            random.between(6, MOST_WORDS)
+        } else {
+            5
+        };
+        self.packet_with_header(ip_words as usize, random)
+    }
+
+    fn packet_with_header(&self, ip_words: usize, random: &mut Random) -> Vec<u8> {
         let tcp_words = words(random);
         let total = 4 * (ip_words + tcp_words) + self.payload;
         let mut packet = Vec::with_capacity(total);
@@ -263,6 +278,7 @@ fn edge_or_below(most: u64, random: &mut Random) -> u64 {
 mod tests {
     use super::*;
     use crate::packet::{read, Segment};
+    use crate::traffic::causes::{first_cause, refusal};
 
     fn draft(random: &mut Random) -> Draft {
         Draft {
@@ -305,33 +321,24 @@ mod tests {
         let mut random = Random::new(2);
         for _ in 0..500 {
             for fault in FAULTS {
-                let row = match fault {
-                    Fault::Under20Bytes
-                    | Fault::Version
-                    | Fault::HeaderUnder20
-                    | Fault::TotalBelowHeader
-                    | Fault::TotalAboveBytes => 5,
-                    Fault::Sum => 6,
-                    Fault::MoreFragments | Fault::FragmentOffset => 7,
-                    Fault::Protocol => 8,
-                    Fault::Under20Follow | Fault::DataOffsetUnder5 => 9,
-                    Fault::DataOffsetPastTotal => 9,
-                    _ => 10,
-                };
                 let draft = Draft {
                     payload: 1,
                     ..draft(&mut random)
                 };
-                let mut packet = draft.packet(&mut random);
+                let mut packet = draft.packet_to_spoil(&mut random);
                 spoil_by(&mut packet, fault, &mut random);
-                let answer = read(&packet).err();
+                let refused = read(&packet)
+                    .err()
+                    .map(|refusal| (refusal.answer, refusal.offset));
+                let cause = first_cause(&packet);
+                assert_eq!(refused, cause.map(|cause| refusal(cause, &packet)));
                 // Some leave the packet whole by chance, or hit another field.
                 let allowed = match fault {
-                    Fault::Sum => answer == Some(6) || answer == Some(5),
-                    Fault::DataOffsetPastTotal => answer == Some(9) || answer.is_none(),
-                    _ => answer == Some(row),
+                    Fault::Sum => matches!(refused, Some((5 | 6, _))),
+                    Fault::DataOffsetPastTotal => cause.is_none_or(|cause| cause == fault),
+                    _ => cause == Some(fault),
                 };
-                assert!(allowed, "{fault:?} {answer:?}");
+                assert!(allowed, "{fault:?} {cause:?}");
             }
         }
     }

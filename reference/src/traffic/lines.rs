@@ -118,7 +118,9 @@ fn is_legal(line: &[u8]) -> bool {
 #[cfg(test)]
 mod tests {
     use super::*;
+    use crate::trace::read_line;
     use crate::trace_run::{run, TraceRun};
+    use crate::traffic::causes::Seen;
 
     #[test]
     fn one_seed_one_text() {
@@ -159,5 +161,21 @@ mod tests {
         for answer in (5..=15).chain([0, 21, 22]) {
             assert!(counts[answer] >= 20, "{answer}: {counts:?}");
         }
+    }
+
+    #[test]
+    fn every_cause_occurs() {
+        let mut run = TraceRun::default();
+        let mut seen = Seen::default();
+        let mut packet = [0; LONGEST_PACKET];
+        for line in lines(1, 20_000) {
+            let given = run.line(&line);
+            if (5..=10).contains(&given.answer) {
+                let length = read_line(&line, &mut packet).length;
+                let place = given.number.expect("answers 5 to 10 have a place");
+                seen.refused(&packet[..length], (given.answer, place));
+            }
+        }
+        seen.check(8);
     }
 }

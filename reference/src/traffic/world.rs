@@ -498,7 +498,7 @@ impl World {
         };
         let mut numbers = self.random_numbers(&[ACK]);
         numbers.payload = 1 + self.random.index(32);
-        let mut packet = numbers.draft(names).packet(&mut self.random);
+        let mut packet = numbers.draft(names).packet_to_spoil(&mut self.random);
         spoil(&mut packet, &mut self.random);
         Some(Arrival {
             side: self.random.below(2) as u8,

@@ -281,7 +281,13 @@ fn middle_digits(table: &mut Table) {
         );
     }
     // Digit 5 at an even offset is the second of its pair, as offset 15 is a first.
-    for (offset, pair) in [(32, "05"), (33, "50"), (2046, "05"), (2047, "50"), (4096, "05")] {
+    for (offset, pair) in [
+        (32, "05"),
+        (33, "50"),
+        (2046, "05"),
+        (2047, "50"),
+        (4096, "05"),
+    ] {
         let before = "00".repeat((offset - 15) / 2);
         let after = "00".repeat(2047 - (offset - 15) / 2);
         table.add(
