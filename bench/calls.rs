@@ -40,6 +40,8 @@ const LINE: usize = 64;
 
 /// An implementation, called in its own shape, so that neither pays for the other's.
 trait Filter {
+    /// A refusal of an earlier library may have another place.
+    const EARLIER: bool = false;
     type Given;
     fn call(side: u32, clock: u64, table: &mut [u8], packet: &[u8]) -> Self::Given;
     fn answer_and_place(given: Self::Given) -> (u32, u32);
@@ -72,6 +74,7 @@ impl Filter for Ours {
 
 #[cfg(before)]
 impl Filter for Reference {
+    const EARLIER: bool = true;
     type Given = u32;
 
     fn call(side: u32, clock: u64, table: &mut [u8], packet: &[u8]) -> u32 {
@@ -160,8 +163,11 @@ fn table_after<F: Filter>(case: &Case) -> Vec<u8> {
 }
 
 fn call_checked<F: Filter>(case: &Case, table: &mut [u8]) {
-    let given = F::answer_and_place(F::call(0, CLOCK, table, &case.packet));
-    assert_eq!(given, (case.answer, case.place), "{}", case.name);
+    let (answer, place) = F::answer_and_place(F::call(0, CLOCK, table, &case.packet));
+    assert_eq!(answer, case.answer, "{}", case.name);
+    if answer == 0 || !F::EARLIER {
+        assert_eq!(place, case.place, "{}", case.name);
+    }
 }
 
 /// One call on each copy.

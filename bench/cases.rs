@@ -66,10 +66,13 @@ fn whole_calls(places: usize, fill: Fill) -> Vec<Case> {
     cases
 }
 
-/// An empty packet is refused as soon as the table has been found sound.
+/// An empty packet is refused, at its byte 0, as soon as the table has been found sound.
 fn scan(places: usize, fill: Fill) -> Case {
     let name = format!("scan/{places}/{}", fill.name());
-    blocked(name, fill.table(places), 5)
+    Case {
+        place: 0,
+        ..blocked(name, fill.table(places), 5)
+    }
 }
 
 fn long_packet() -> Case {
