@@ -47,6 +47,19 @@ int main(void) {
     }
     printf("passed %zu of %zu\n", passed, lines);
 
+    /* On answers 5 to 10 the place is the offset at which the packet broke: here at 10, where the header's checksum stands. */
+    uint8_t damaged[QB_MOST_PACKET_BYTES];
+    uint8_t side;
+    uint64_t clock;
+    size_t length, offset;
+    qb_read_line((const uint8_t *)trace[0], strlen(trace[0]), damaged, sizeof damaged, &side, &clock, &length, &offset);
+    damaged[8]--; /* the time to live, with the checksum left as it was */
+    uint32_t refused = qb_filter(side, clock, table, sizeof table, damaged, length);
+    if (qb_answer(refused) != 6 || qb_place(refused) != 10) {
+        fprintf(stderr, "a wrong checksum is not told, %u at %u\n", qb_answer(refused), qb_place(refused));
+        return 1;
+    }
+
     /* A side is not cut to fewer bits: 256 is answered 1, not as side 0. */
     if (qb_answer(qb_filter(256, 0, table, sizeof table, (const uint8_t *)trace[0], 0)) != 1) {
         fprintf(stderr, "side 256 is not answered 1\n");

@@ -44,7 +44,7 @@ mod quaybonnet {
         64 * (places + 1)
     }
 
-    /// The answer and, on answer 0, the place.
+    /// The answer and its place: on answer 0 the entry's, on answers 5 to 10 the offset at which the packet broke, else none.
     pub fn filter(side: u32, clock: u64, table: &mut [u8], packet: &[u8]) -> (u32, Option<u32>) {
         let result = unsafe {
             c::qb_filter(
@@ -151,5 +151,17 @@ fn main() -> Result<(), String> {
         }
     }
     println!("passed {passed} of {}", TRACE.len());
+
+    // On answers 5 to 10 the place is the offset at which the packet broke: here at 10, where the header's checksum stands.
+    let mut packet = [0; quaybonnet::MOST_PACKET_BYTES];
+    let whole = quaybonnet::read_line(TRACE[0].as_bytes(), &mut packet)
+        .map_err(|unread| format!("not read, {}", unread.number))?;
+    let mut damaged = whole.packet.to_vec();
+    // The time to live, with the checksum left as it was.
+    damaged[8] -= 1;
+    let refused = quaybonnet::filter(whole.side.into(), whole.clock, &mut table, &damaged);
+    if refused != (6, Some(10)) {
+        return Err(format!("a wrong checksum is not told: {refused:?}"));
+    }
     Ok(())
 }

@@ -20,24 +20,26 @@ extern "C" {
 /* Length in bytes of a table with n places, n from 1 to 512. All zeros are a fresh table. */
 #define QB_TABLE_LENGTH(n) (64 * ((n) + 1))
 
-/* The place of every answer but 0. */
+/* The place of every answer but 0 and 5 to 10. */
 #define QB_NO_PLACE 65535
 
 /*
  * Asks the filter about one packet: the side that it came from (0 or 1), a clock in ms, the table, the packet from its IPv4 header on.
  * Returns answer * 65536 + place. On answer 0 the packet may pass, and the header clock and the entry at that place have been written;
- * on every other it is to be dropped, the place is QB_NO_PLACE, and no byte of the table has changed. The packet is only read.
- * Any side, clock, lengths and bytes are answered. The answer is the first of these that applies:
+ * on every other it is to be dropped, and no byte of the table has changed. On answers 5 to 10 the place is the offset at which the packet
+ * broke, in bytes from its start: below packet_len or, where bytes are missing, at most packet_len; always below 120, so never QB_NO_PLACE, the
+ * place of every other refusal. The packet is only read. Any side, clock, lengths and bytes are answered. The answer is the first of these that applies; in
+ * brackets the offset, h being the length of the IP header, 20 without options:
  *    1  side is not 0 or 1
  *    2  clock is 2^48 ms or more
  *    3  table_len is not QB_TABLE_LENGTH(n) with n from 1 to 512
  *    4  the table is unsound: its clock, an entry or a byte that has to be zero is not as docs/RULES.md, "The table", has it (no call makes it so)
- *    5  it is not IPv4, or its header's length or its total length is too small, or more than the bytes given
- *    6  the IPv4 header's checksum is wrong
- *    7  it is a fragment
- *    8  it is not TCP
- *    9  there is no whole TCP header within the packet, or its data offset is too small or past the packet's end
- *   10  SYN with FIN or RST; none of SYN, ACK and RST; or SYN with payload
+ *    5  under 20 bytes, version not 4, or header length under 20 [0]; total length below header length or above the bytes given [2]
+ *    6  the IPv4 header's checksum is wrong [10]
+ *    7  it is a fragment [6]
+ *    8  it is not TCP [9]
+ *    9  there is no whole TCP header within the packet [h]; or its data offset is too small or past the packet's end [h + 12]
+ *   10  SYN with FIN or RST; none of SYN, ACK and RST; or SYN with payload [h + 13]
  *   11  no live connection matches, and it is not a SYN without ACK from side 0
  *   12  it would open a connection, and no place is free or expired
  *   13  the connection's SYN is not answered yet, and this is neither the same SYN nor an answer to it
@@ -47,7 +49,7 @@ extern "C" {
  */
 uint32_t qb_filter(uint32_t side, uint64_t clock, uint8_t *table, size_t table_len, const uint8_t *packet, size_t packet_len);
 
-/* What qb_filter returned, taken apart. */
+/* What qb_filter returned, taken apart: the answer, and the place or offset. */
 static inline uint32_t qb_answer(uint32_t result) { return result / 65536; }
 static inline uint32_t qb_place(uint32_t result) { return result % 65536; }
 
