@@ -7,11 +7,9 @@ use lib.ListN.{length, getD, replicate}
 use Rattle.octets.specs.Overwrite.{overwrite}
 use Rattle.address.specs.declared.Version.{Version}
 use Rattle.address.specs.declared.Version.the-variants.{V4}
-use Rattle.packet.specs.Read.{readIPv4, causeNumber}
-use Rattle.packet.specs.Reader.{PointsInto, ReaderOf}
-use Rattle.packet.specs.declared.Cause.{Cause}
+use Rattle.packet.specs.Read.{readIPv4}
+use Rattle.packet.specs.Reader.{BrokenAt, ReaderOf}
 use Rattle.packet.specs.declared.PacketRead.{PacketRead}
-use Rattle.packet.specs.declared.PacketRead.the-variants.{Refused}
 use Rattle.rows.specs.Rows.{nowhere}
 use Rattle.entry.specs.Layout.{entrySize, placeAt}
 use Rattle.table.specs.Table.{headerZerosAt, versionByteAt, versionByte}
@@ -23,20 +21,12 @@ use Rattle.honest.specs.Demand2.{viewAfter as historiesAfter, asked, stateAfter
 use Rattle.demands.specs.Bytes.{BytesCall, SoundBytes, bytesMachine}
 use Rattle.demands.specs.Encoded.{tableBytes}
 
--- the reader refuses the packet by a cause with this answer and this offset, which points into the packet, or right behind it where bytes are
--- missing, and so is not 65,535
-pub record BrokenAt (packet : List ℕ) (read : PacketRead) (answer place : ℕ) : Type 0 where
-  pub cause : Cause
-  pub refused : read ≡ Refused cause place
-  pub answered : answer ≡ causeNumber cause
-  pub points : PointsInto packet cause place
-
 module _ (v : Version) where
   -- what is left alone by a pass at a place: all but the header clock and that entry
   abbrev pub Elsewhere : ℕ → ℕ → Type 0
   Elsewhere p i = (headerZerosAt ≤ i) × ((i < placeAt v p) ⊎ (placeAt v p + entrySize v ≤ i))
 
-  pub record Demand1For (t packet : List ℕ) (read : PacketRead) (o : Outcome) : Type 0 where
+  pub record Demand1For (read : List ℕ → PacketRead) (t packet : List ℕ) (o : Outcome) : Type 0 where
     -- a pass gives one of the table's places, 0 to n−1, and changes only the header clock and that entry
     pub passed-place : replyOf o .answer ≡ 0 → replyOf o .place < placesIn v t
     pub passed-length : replyOf o .answer ≡ 0 → length (tableAfter v t o) ≡ length t
@@ -44,8 +34,9 @@ module _ (v : Version) where
     -- every other answer is one of document 01's and changes no byte
     pub blocked-answer : (replyOf o .answer ≡ 0 → ⊥) → replyOf o .answer ≤ 15
     pub blocked-keeps : (replyOf o .answer ≡ 0 → ⊥) → tableAfter v t o ≡ t
-    -- 5 to 10 give the byte offset at which the packet broke (document 02, item 2), and every other refusal gives place 65,535
-    pub broken-place : 5 ≤ replyOf o .answer → replyOf o .answer ≤ 10 → BrokenAt packet read (replyOf o .answer) (replyOf o .place)
+    -- 5 to 10 give the byte offset at which the packet broke (document 02, item 2): below the packet's length or, where bytes are missing, at most
+    -- it; every other refusal gives place 65,535
+    pub broken-place : 5 ≤ replyOf o .answer → replyOf o .answer ≤ 10 → BrokenAt read packet (replyOf o .answer) (replyOf o .place)
     pub blocked-place : (replyOf o .answer ≡ 0 → ⊥) → (replyOf o .answer < 5) ⊎ (10 < replyOf o .answer) → replyOf o .place ≡ nowhere
 
   -- a fresh table with n places: zeros but for the byte of its IP version, which is 0 in an IPv4 table
@@ -55,7 +46,7 @@ module _ (v : Version) where
   module _ (read : List ℕ → PacketRead) where
     -- Demand 1: any bytes, side, clock and table get one of the numbered answers, and only a pass changes the table. Nothing is asked of them
     abbrev pub Demand1OnBytes : Type 0
-    Demand1OnBytes = (side clock : ℕ) (t packet : List ℕ) → Demand1For t packet (read packet) (outcomeOf v side clock t (read packet))
+    Demand1OnBytes = (side clock : ℕ) (t packet : List ℕ) → Demand1For read t packet (outcomeOf v side clock t (read packet))
 
     -- Demand 2: after every list of calls from a fresh table, the table's bytes are those of the histories' numbers modulo 2^32, each
     -- answer and each place of the next call is what the histories on the unwrapped line give, 14, 15 and 0 by all places on it, and the table

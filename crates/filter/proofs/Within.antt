@@ -1,7 +1,7 @@
 -- Answers run from 0 to 15, 5 to 10 are the reader's with their offsets, and what a pass writes lies in the table.
 use Prim.Native.Nat.{ℕ, _+_, _≤_, _<_}
 use mathlib.Core.Path.{_≡_, refl}
-use mathlib.Core.Logic.{_⊎_, inl, inr}
+use mathlib.Core.Logic.{_⊎_, inl, inr, ⊎-elim}
 use mathlib.Core.List.{List}
 use native.Mathlib.Omega.{arith}
 use lib.ListN.{length}
@@ -12,6 +12,7 @@ use Rattle.address.specs.declared.Version.{Version}
 use Rattle.address.specs.declared.Version.the-variants.{V4}
 use Rattle.segment.specs.declared.Segment.{Segment}
 use Rattle.packet.specs.Read.{readIPv4, causeNumber}
+use Rattle.packet.specs.Reader.{BrokenAt, ReaderOf}
 use Rattle.packet.specs.declared.Cause.{Cause}
 use Rattle.packet.specs.declared.PacketRead.{PacketRead}
 use Rattle.packet.specs.declared.PacketRead.the-variants.{Refused, Tcp}
@@ -32,6 +33,22 @@ use Rattle.filter.proofs.Rows.{legal-length-bounds, places-inside, plac
 pub data Placed (read : PacketRead) (n place : ℕ) : Type 0 where
   by-packet : (cause : Cause) → read ≡ Refused cause place → n ≡ causeNumber cause → Placed read n place
   elsewhere : (n < 5) ⊎ (10 < n) → place ≡ nowhere → Placed read n place
+
+-- 5 to 10 are the reader's
+pub broken-at :
+    (v : Version) (read : List ℕ → PacketRead) → ReaderOf v read →
+    (p : List ℕ) (n place : ℕ) → Placed (read p) n place → 5 ≤ n → n ≤ 10 → BrokenAt read p n place
+broken-at v read reader p n place (by-packet cause is numbered) from-5 to-10 =
+    record { cause = cause; refused = is; answered = numbered; points = reader .offset p cause place is }
+broken-at v read reader p n place (elsewhere other none) from-5 to-10 =
+    ⊎-elim (λ (low : n < 5). absurd (omega arith)) (λ (high : 10 < n). absurd (omega arith)) other
+
+-- and no other has a place
+pub unplaced : (read : PacketRead) (n place : ℕ) → Placed read n place → (n < 5) ⊎ (10 < n) → place ≡ nowhere
+unplaced read n place (by-packet cause is numbered) other =
+    let answer = cause-5-to-10 cause in
+    ⊎-elim (λ (low : n < 5). absurd (omega (arith, answer .0))) (λ (high : 10 < n). absurd (omega (arith, answer .1))) other
+unplaced read n place (elsewhere other none) _ = none
 
 -- an answer from 1 to 15, or one of at most 512 places, inside the table
 abbrev pub Within : Version → List ℕ → PacketRead → Outcome → Type 0

@@ -5,10 +5,10 @@ use mathlib.Core.Logic.{inl, inr}
 use mathlib.Core.List.{List}
 use native.Mathlib.Omega.{arith}
 use lib.ListN.{length}
-use borrow.Author.Tests.{ltb-true, ltb-false}
+use borrow.Author.Tests.{ltb-false}
 use Rattle.choice.proofs.Choice.{if-either, if-cases}
 use Rattle.address.specs.declared.Version.{Version}
-use Rattle.packet.specs.Header.{headerLength, totalLength, dataOffset, controlBits}
+use Rattle.packet.specs.Header.{headerLength, totalLength, controlBits}
 use Rattle.packet.specs.Read.{rows6to8, ipv4Header, refusal, payload, row10, onFlags, rows9to10, onHeader}
 use Rattle.packet.specs.Reader.{PointsInto}
 use Rattle.packet.specs.declared.Cause.{Cause}

@@ -10,6 +10,7 @@ use Rattle.address.specs.declared.Flow.{Flow}
 use Rattle.address.specs.declared.Version.{Version}
 use Rattle.segment.specs.Readable.{Readable}
 use Rattle.segment.specs.declared.Segment.{Segment}
+use Rattle.packet.specs.Read.{causeNumber}
 use Rattle.packet.specs.declared.Cause.{Cause}
 use Rattle.packet.specs.declared.Cause.the-variants.{Short, TcpShort}
 use Rattle.packet.specs.declared.PacketRead.{PacketRead}
@@ -24,6 +25,13 @@ BytesMissing cause = (cause ≡ Short) ⊎ (cause ≡ TcpShort)
 pub record PointsInto (p : List ℕ) (cause : Cause) (offset : ℕ) : Type 0 where
   pub given : (offset < length p) ⊎ (BytesMissing cause × (offset ≤ length p))
   pub headers : offset < 120
+
+-- a reader refuses a packet by a cause with this answer, and the packet broke at this offset, which points into it
+pub record BrokenAt (read : List ℕ → PacketRead) (p : List ℕ) (answer offset : ℕ) : Type 0 where
+  pub cause : Cause
+  pub refused : read p ≡ Refused cause offset
+  pub answered : answer ≡ causeNumber cause
+  pub points : PointsInto p cause offset
 
 -- from octets it gives that version's addresses with 16-bit ports, and a segment as TCP's header and row 10 have it; a refusal points into
 -- the packet

@@ -1,5 +1,5 @@
--- Laws of a line's result: how it goes by the reader's answer, that it is never 23, that its text is short, and that a line cut
--- at 4,112 bytes has it.
+-- Laws of a line's result: how it goes by the reader's answer, that it is never 23, that 5 to 10 show their offset, that its text is short, and
+-- that a line cut at 4,112 bytes has it.
 use Prim.Native.Nat.{ℕ, _+_, _≤_, _<_}
 use mathlib.Core.Path.{_≡_, refl, sym, ap, _∙_}
 use mathlib.Core.Logic.{⊎-elim}
@@ -25,14 +25,16 @@ use Rattle.report.proofs.Text.{length-decimalText≤, length-resultText}
 use Rattle.address.specs.declared.Version.the-variants.{V4}
 use Rattle.rows.specs.Rows.{Blocked, Passed}
 use Rattle.packet.specs.Read.{readIPv4}
+use Rattle.packet.specs.declared.Cause.{Cause}
+use Rattle.packet.specs.declared.PacketRead.the-variants.{Refused}
 use Rattle.packet.proofs.Readable.{ipv4-reader}
 use Rattle.filter.specs.Call.{Outcome, ipv4Outcome, replyOf, tableAfter}
 use Rattle.filter.specs.declared.Reply.{Reply}
-use Rattle.filter.proofs.Within.{Placed, by-packet, elsewhere, Within, outcome-within, ipv4-reply-small}
+use Rattle.filter.proofs.Within.{Placed, by-packet, elsewhere, broken-at, Within, outcome-within, ipv4-reply-small}
 use Rattle.replay.specs.Feed.{Memory, memory, withAnswer, withUsed, withResult, withLine, withTotal}
 use Rattle.replay.specs.Written.{lineRoom, resultRoom}
 use Rattle.replay.specs.declared.Progress.{Progress}
-use Rattle.replay.specs.Printed.{Result, room, ofCall, ofRead, resultOf, Never23}
+use Rattle.replay.specs.Printed.{Result, room, ofCall, ofRead, resultOf, Never23, ShowsOffset, OffsetShown}
 
 -- The reader's answer
 
@@ -95,6 +97,36 @@ pub never-23 : Never23
 unfolding resultOf
 never-23 line t = read-never-23 line t (readLine line room) (readLine-bounded line)
 
+-- an offset is shown as it is, since it is below 120
+module _ (t packet : List ℕ) where
+  offset-number :
+      (n place : ℕ) (cause : Cause) → readIPv4 packet ≡ Refused cause place →
+      (place < 120) × (ofCall t (Blocked n place) .shown ≡ Number place)
+  unfolding shownPlace
+  offset-number n place cause is =
+      let below = ipv4-reader .offset packet cause place is .headers in
+      (below, if-=-not Dash (Number place) (λ (none : place ≡ 65535). omega (arith, below)))
+
+  call-shown : (o : Outcome) → Within V4 t (readIPv4 packet) o → 5 ≤ ofCall t o .answer → ofCall t o .answer ≤ 10 → ShowsOffset packet (ofCall t o)
+  call-shown (Blocked n place) within from-5 to-10 =
+      let broken = broken-at V4 readIPv4 ipv4-reader packet n place (within .2) from-5 to-10 in
+      record { offset = place; broken = broken; shown = offset-number n place (broken .cause) (broken .refused) .1 }
+  call-shown (Passed p now e) within from-5 to-10 = absurd (omega (arith, from-5))
+
+read-shown :
+    (line t : List ℕ) (read : LineRead) → 5 ≤ ofRead read line t .answer → ofRead read line t .answer ≤ 10 →
+    ShowsOffset (linePacket line) (ofRead read line t)
+unfolding readAnswer
+read-shown line t TooLong from-5 to-10 = absurd (omega (arith, to-10))
+read-shown line t (Malformed offset) from-5 to-10 = absurd (omega (arith, to-10))
+read-shown line t NoRoom from-5 to-10 = absurd (omega (arith, to-10))
+read-shown line t (Frame side clock n) from-5 to-10 =
+    call-shown t (linePacket line) (ipv4Outcome side clock t (linePacket line)) (outcome-within V4 side clock t (readIPv4 (linePacket line))) from-5 to-10
+
+pub offset-shown : OffsetShown
+unfolding resultOf
+offset-shown line t = read-shown line t (readLine line room)
+
 -- a line that is cut where it is too long already is still too long
 pub resultOf-cut : (line t : List ℕ) → resultOf (take lineRoom line) t ≡ resultOf line t
 resultOf-cut line t =
@@ -127,8 +159,8 @@ module _ (t packet : List ℕ) where
   refusal-short : (n place : ℕ) → n ≤ 15 → Placed (readIPv4 packet) n place → Short (ofCall t (Blocked n place))
   unfolding shownPlace
   refusal-short n place most (by-packet cause is numbered) =
-      let below = ipv4-reader .offset packet cause place is .headers in
-      rw (if-=-not Dash (Number place) (λ (none : place ≡ 65535). omega (arith, below))) (number-short t n place (omega arith) (omega (arith, below)))
+      let shown = offset-number t packet n place cause is in
+      rw (shown .1) (number-short t n place (omega arith) (omega (arith, shown .0)))
   refusal-short n place most (elsewhere other none) = rw (if-= Dash (Number place) none) (dash-short t n (omega arith))
 
   call-short : (o : Outcome) → Within V4 t (readIPv4 packet) o → Short (ofCall t o)

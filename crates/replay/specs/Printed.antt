@@ -1,5 +1,5 @@
 -- What is printed of a trace (document 01, "Trace lines"), told of the whole input. Input, lines and text are lists of bytes.
-use Prim.Native.Nat.{ℕ, _+_}
+use Prim.Native.Nat.{ℕ, _+_, _≤_}
 use mathlib.Core.Path.{_≡_}
 use mathlib.Core.List.{List, [], _∷_, _++_}
 use lib.ListN.{length}
@@ -12,6 +12,8 @@ use Rattle.report.specs.Text.{shownPlace, resultText, totalText}
 use Rattle.report.specs.declared.Shown.{Shown}
 use Rattle.report.specs.declared.Shown.the-variants.{Number, Dash}
 use Rattle.address.specs.declared.Version.the-variants.{V4}
+use Rattle.packet.specs.Read.{readIPv4}
+use Rattle.packet.specs.Reader.{BrokenAt}
 use Rattle.filter.specs.Call.{Outcome, ipv4Outcome, replyOf, tableAfter}
 
 -- Lines
@@ -40,7 +42,7 @@ pub record Result : Type 0 where
 abbrev pub room : ℕ
 room = 2048
 
--- the place, `-` for 65,535
+-- the place, for 5 to 10 the offset at which the packet broke (document 02, item 2); `-` for 65,535
 abbrev pub ofCall : List ℕ → Outcome → Result
 ofCall t o = record { answer = replyOf o .answer; shown = shownPlace (replyOf o .place); table = tableAfter V4 t o }
 
@@ -57,6 +59,16 @@ resultOf line t = ofRead (readLine line room) line t
 -- no line is answered 23: one of at most 4,111 characters has at most 2,048 packet bytes, and the filter's answers are at most 15
 abbrev pub Never23 : Type 0
 Never23 = (line t : List ℕ) → resultOf line t .answer ≡ 23 → ⊥
+
+-- the answer is the packet reader's, and what is shown after it is the offset at which the packet broke
+pub record ShowsOffset (packet : List ℕ) (s : Result) : Type 0 where
+  pub offset : ℕ
+  pub broken : BrokenAt readIPv4 packet (s .answer) offset
+  pub shown : s .shown ≡ Number offset
+
+-- so it is for 5 to 10: never `-`
+abbrev pub OffsetShown : Type 0
+OffsetShown = (line t : List ℕ) → let s = resultOf line t in 5 ≤ s .answer → s .answer ≤ 10 → ShowsOffset (linePacket line) s
 
 -- The whole input
 
