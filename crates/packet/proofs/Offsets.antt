@@ -1,5 +1,5 @@
 -- A refusal's offset points into the packet.
-use Prim.Native.Nat.{ℕ, _-_, _≤_}
+use Prim.Native.Nat.{ℕ, _-_, _≤_, _<_}
 use mathlib.Core.Path.{_≡_, refl, subst}
 use mathlib.Core.Logic.{inl, inr}
 use mathlib.Core.List.{List}
@@ -9,7 +9,7 @@ use borrow.Author.Tests.{ltb-false}
 use Rattle.choice.proofs.Choice.{if-either, if-cases}
 use Rattle.address.specs.declared.Version.{Version}
 use Rattle.packet.specs.Header.{headerLength, totalLength, controlBits}
-use Rattle.packet.specs.Read.{rows6to8, ipv4Header, refusal, payload, row10, onFlags, rows9to10, onHeader}
+use Rattle.packet.specs.Read.{rows6to8, ipv4Header, payload, row10, onFlags, rows9to10, onHeader}
 use Rattle.packet.specs.Reader.{PointsInto}
 use Rattle.packet.specs.declared.Cause.{Cause}
 use Rattle.packet.specs.declared.FlagCheck.{FlagCheck}
@@ -29,6 +29,9 @@ abbrev ReadPoints : List ℕ → PacketRead → Type 0
 ReadPoints p (Refused cause offset) = PointsInto p cause offset
 ReadPoints p (Tcp k g) = Unit {0}
 
+inside : {p : List ℕ} {cause : Cause} {offset : ℕ} → offset < length p → offset < 120 → PointsInto p cause offset
+inside given headers = record { given = inl given; headers = headers }
+
 -- Rows 9 and 10, of every version
 
 module _ (v : Version) (addresses : ℕ) (p : List ℕ) (h t : ℕ) (short : h ≤ 60) (behind : h ≤ t) (given : t ≤ length p) where
@@ -37,7 +40,7 @@ module _ (v : Version) (addresses : ℕ) (p : List ℕ) (h t : ℕ) (short : h �
       ReadPoints p (onFlags h check read)
   flags-point read (BadFlags cause) bad room points =
       let at = flags-offset h (controlBits p h) (payload p h t) cause bad in
-      record { given = inl (omega (arith, at)); headers = omega (arith, at) }
+      inside (omega (arith, at)) (omega (arith, at))
   flags-point read Fine fine room points = points
 
   rows9to10-point : ReadPoints p (rows9to10 v addresses p h t)
@@ -45,8 +48,8 @@ module _ (v : Version) (addresses : ℕ) (p : List ℕ) (h t : ℕ) (short : h �
   rows9to10-point =
       if-cases (ReadPoints p) _ _ _ (λ _. record { given = inr (inr refl, omega arith); headers = omega arith }) λ e.
       let room : 20 ≤ t - h = ltb-false (t - h) 20 e in
-      if-either (ReadPoints p) _ _ _ (record { given = inl (omega arith); headers = omega arith })
-      (if-either (ReadPoints p) _ _ _ (record { given = inl (omega arith); headers = omega arith })
+      if-either (ReadPoints p) _ _ _ (inside (omega arith) (omega arith))
+      (if-either (ReadPoints p) _ _ _ (inside (omega arith) (omega arith))
       (flags-point _ (row10 (controlBits p h) (payload p h t)) refl room tt))
 
 pub header-points :
@@ -62,9 +65,9 @@ module _ (p : List ℕ) where
   rows6to8-point : (h t : ℕ) → h ≤ 60 → h ≤ t → t ≤ length p → 20 ≤ length p → HeaderPoints p (rows6to8 p h t)
   unfolding rows6to8
   rows6to8-point h t short behind given whole =
-      if-either (HeaderPoints p) _ _ _ (record { given = inl (omega arith); headers = omega arith })
-      (if-either (HeaderPoints p) _ _ _ (record { given = inl (omega arith); headers = omega arith })
-      (if-either (HeaderPoints p) _ _ _ (record { given = inl (omega arith); headers = omega arith })
+      if-either (HeaderPoints p) _ _ _ (inside (omega arith) (omega arith))
+      (if-either (HeaderPoints p) _ _ _ (inside (omega arith) (omega arith))
+      (if-either (HeaderPoints p) _ _ _ (inside (omega arith) (omega arith))
       (short, behind, given)))
 
   pub ipv4Header-points : HeaderPoints p (ipv4Header p)
@@ -74,8 +77,8 @@ module _ (p : List ℕ) where
       let t : ℕ = totalLength p in
       if-cases (HeaderPoints p) _ _ _ (λ _. record { given = inr (inl refl, omega arith); headers = omega arith }) λ whole.
       let room : 20 ≤ length p = ltb-false (length p) 20 whole in
-      if-either (HeaderPoints p) _ _ _ (record { given = inl (omega arith); headers = omega arith })
-      (if-either (HeaderPoints p) _ _ _ (record { given = inl (omega arith); headers = omega arith })
-      (if-cases (HeaderPoints p) _ _ _ (λ _. record { given = inl (omega arith); headers = omega arith }) λ behind.
-      if-cases (HeaderPoints p) _ _ _ (λ _. record { given = inl (omega arith); headers = omega arith }) λ given.
+      if-either (HeaderPoints p) _ _ _ (inside (omega arith) (omega arith))
+      (if-either (HeaderPoints p) _ _ _ (inside (omega arith) (omega arith))
+      (if-cases (HeaderPoints p) _ _ _ (λ _. inside (omega arith) (omega arith)) λ behind.
+      if-cases (HeaderPoints p) _ _ _ (λ _. inside (omega arith) (omega arith)) λ given.
       rows6to8-point h t (omega arith) (ltb-false t h behind) (ltb-false (length p) t given) room))
