@@ -40,7 +40,7 @@ const LINE: usize = 64;
 
 /// An implementation, called in its own shape, so that neither pays for the other's.
 trait Filter {
-    /// A refusal of an earlier library may have another place.
+    /// An earlier library may give 5 to 10 another place, or none.
     const EARLIER: bool = false;
     type Given;
     fn call(side: u32, clock: u64, table: &mut [u8], packet: &[u8]) -> Self::Given;
@@ -165,7 +165,7 @@ fn table_after<F: Filter>(case: &Case) -> Vec<u8> {
 fn call_checked<F: Filter>(case: &Case, table: &mut [u8]) {
     let (answer, place) = F::answer_and_place(F::call(0, CLOCK, table, &case.packet));
     assert_eq!(answer, case.answer, "{}", case.name);
-    if answer == 0 || !F::EARLIER {
+    if !(F::EARLIER && (5..=10).contains(&answer)) {
         assert_eq!(place, case.place, "{}", case.name);
     }
 }

@@ -66,7 +66,7 @@ fn whole_calls(places: usize, fill: Fill) -> Vec<Case> {
     cases
 }
 
-/// An empty packet is refused, at its byte 0, as soon as the table has been found sound.
+/// An empty packet is refused, at offset 0, as soon as the table has been found sound.
 fn scan(places: usize, fill: Fill) -> Case {
     let name = format!("scan/{places}/{}", fill.name());
     Case {

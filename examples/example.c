@@ -1,4 +1,5 @@
-/* Runs the example of docs/RULES.md through the library: each line is read, the filter asked about its packet, and the packet written back as a line. */
+/* Runs the example of docs/RULES.md through the library: each line is read, the filter asked about its packet, and the packet written back as a line. Then a damaged packet and a
+   wrong side, which print nothing if they are answered as they should be. */
 #include <stdio.h>
 #include <string.h>
 
@@ -47,13 +48,14 @@ int main(void) {
     }
     printf("passed %zu of %zu\n", passed, lines);
 
-    /* On answers 5 to 10 the place is the offset at which the packet broke: here at 10, where the header's checksum stands. */
+    /* On answers 5 to 10 the place is the offset of the field that failed: 10, the header's checksum, though it is byte 8 that was changed. */
     uint8_t damaged[QB_MOST_PACKET_BYTES];
     uint8_t side;
     uint64_t clock;
     size_t length, offset;
-    qb_read_line((const uint8_t *)trace[0], strlen(trace[0]), damaged, sizeof damaged, &side, &clock, &length, &offset);
-    damaged[8]--; /* the time to live, with the checksum left as it was */
+    if (qb_read_line((const uint8_t *)trace[0], strlen(trace[0]), damaged, sizeof damaged, &side, &clock, &length, &offset) != 0)
+        return 1;
+    damaged[8]--;
     uint32_t refused = qb_filter(side, clock, table, sizeof table, damaged, length);
     if (qb_answer(refused) != 6 || qb_place(refused) != 10) {
         fprintf(stderr, "a wrong checksum is not told, %u at %u\n", qb_answer(refused), qb_place(refused));

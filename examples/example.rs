@@ -1,5 +1,5 @@
 //! Runs the example of docs/RULES.md through the library: each line is read, the filter asked about its packet,
-//! and the packet written back as a line.
+//! and the packet written back as a line. Then a damaged packet, which prints nothing if it is answered as it should be.
 
 /// The library's functions. They are safe to call on references, which are never null, point to as
 /// many bytes as their lengths say, and of which no `&mut` overlaps another.
@@ -44,8 +44,18 @@ mod quaybonnet {
         64 * (places + 1)
     }
 
-    /// The answer and its place: on answer 0 the entry's, on answers 5 to 10 the offset at which the packet broke, else none.
-    pub fn filter(side: u32, clock: u64, table: &mut [u8], packet: &[u8]) -> (u32, Option<u32>) {
+    /// What the filter says of a packet.
+    #[derive(Debug, PartialEq, Eq)]
+    pub enum Answer {
+        /// 0: it may pass, by the entry at this place of the table.
+        Passed { place: u32 },
+        /// 5 to 10: it broke at this byte offset. Where bytes are missing that may be the packet's length.
+        Broken { number: u32, offset: u32 },
+        /// Every other number.
+        Blocked { number: u32 },
+    }
+
+    pub fn filter(side: u32, clock: u64, table: &mut [u8], packet: &[u8]) -> Answer {
         let result = unsafe {
             c::qb_filter(
                 side,
@@ -56,8 +66,11 @@ mod quaybonnet {
                 packet.len(),
             )
         };
-        let (answer, place) = (result / 65536, result % 65536);
-        (answer, (place != 65535).then_some(place))
+        match (result / 65536, result % 65536) {
+            (0, place) => Answer::Passed { place },
+            (number, 65535) => Answer::Blocked { number },
+            (number, offset) => Answer::Broken { number, offset },
+        }
     }
 
     /// What a line says; the packet stands at the start of the output.
@@ -119,6 +132,8 @@ mod quaybonnet {
     }
 }
 
+use quaybonnet::Answer;
+
 const TRACE: [&str; 3] = [
     "0 000000000000 4500002800000000400666ce0a0000010a000002040000500000006400000000500203e893440000",
     "1 000000000064 4500002800000000400666ce0a0000020a00000100500400000001f400000065501207d08d570000",
@@ -135,13 +150,13 @@ fn main() -> Result<(), String> {
             format!("not read, {} at {}: {line}", unread.number, unread.offset)
         })?;
 
-        let (answer, place) =
-            quaybonnet::filter(frame.side.into(), frame.clock, &mut table, frame.packet);
-        match place {
-            Some(place) => println!("{answer} {place}"),
-            None => println!("{answer} -"),
+        let answer = quaybonnet::filter(frame.side.into(), frame.clock, &mut table, frame.packet);
+        match answer {
+            Answer::Passed { place } => println!("0 {place}"),
+            Answer::Broken { number, offset } => println!("{number} {offset}"),
+            Answer::Blocked { number } => println!("{number} -"),
         }
-        passed += u32::from(answer == 0);
+        passed += u32::from(matches!(answer, Answer::Passed { .. }));
 
         let mut again = [0; quaybonnet::MOST_LINE_CHARACTERS];
         let again = quaybonnet::write_line(&frame, &mut again)
@@ -152,15 +167,18 @@ fn main() -> Result<(), String> {
     }
     println!("passed {passed} of {}", TRACE.len());
 
-    // On answers 5 to 10 the place is the offset at which the packet broke: here at 10, where the header's checksum stands.
+    // The offset is that of the field that failed: 10, the header's checksum, though it is byte 8 that was changed.
     let mut packet = [0; quaybonnet::MOST_PACKET_BYTES];
     let whole = quaybonnet::read_line(TRACE[0].as_bytes(), &mut packet)
         .map_err(|unread| format!("not read, {}", unread.number))?;
     let mut damaged = whole.packet.to_vec();
-    // The time to live, with the checksum left as it was.
     damaged[8] -= 1;
     let refused = quaybonnet::filter(whole.side.into(), whole.clock, &mut table, &damaged);
-    if refused != (6, Some(10)) {
+    let expected = Answer::Broken {
+        number: 6,
+        offset: 10,
+    };
+    if refused != expected {
         return Err(format!("a wrong checksum is not told: {refused:?}"));
     }
     Ok(())

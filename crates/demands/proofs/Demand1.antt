@@ -36,7 +36,7 @@ module _ (v : Version) (read : List ℕ → PacketRead) (reader : ReaderOf v rea
         passed-elsewhere = λ _ i off. byte-elsewhere v t p now (stored e) inside i (omega (arith, off .0)) (off .1);
         blocked-answer = λ not-0. absurd (not-0 refl);
         blocked-keeps = λ not-0. absurd (not-0 refl);
-        broken-place = λ from-5. absurd (omega (arith, from-5));
+        broken-place = λ answer. absurd (omega (arith, answer .0));
         blocked-place = λ not-0. absurd (not-0 refl);
       }
 

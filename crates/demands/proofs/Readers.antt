@@ -74,6 +74,6 @@ reader-needed = (
       absurd (omega (arith, sym (left-is .1) ∙ ap firstAddress same ∙ whole))),
   (λ d.
       let five = refusal-is .0 in
-      let broken = d .demand1 0 0 (freshBytes V4 1) [] .broken-place (omega (arith, five)) (omega (arith, five)) in
+      let broken = d .demand1 0 0 (freshBytes V4 1) [] .broken-place (omega (arith, five), omega (arith, five)) in
       no-byte-at-1 (broken .cause) (refusal .place) (refusal-is .1) (broken .points)),
 )

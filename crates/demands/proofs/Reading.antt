@@ -13,7 +13,7 @@ use Rattle.segment.specs.Readable.{Readable}
 use Rattle.packet.specs.Reader.{ReaderOf}
 use Rattle.packet.specs.declared.PacketRead.{PacketRead}
 use Rattle.packet.specs.declared.PacketRead.the-variants.{Refused, Tcp}
-use Rattle.packet.proofs.Causes.{cause-5-to-10}
+use Rattle.packet.proofs.Causes.{cause-answer}
 use Rattle.rows.specs.Rows.{Ask, View, Blocked, nowhere, filter}
 use Rattle.rows.specs.Connections.{connections}
 use Rattle.filter.specs.Call.{Outcome, tableOf, rows5to10, askOf, outcomeOf}
@@ -77,7 +77,7 @@ Holds v apart = ⊥
 
 module _ (v : Version) (read : List ℕ → PacketRead) (reader : ReaderOf v read) (q : BytesCall) where
   packet-holds : q .side ≤ 1 → q .clock < 2 ^ 48 → (r : PacketRead) → read (q .packet) ≡ r → Holds v (asked q r)
-  packet-holds side clock (Refused cause offset) is = omega (arith, cause-5-to-10 cause .0)
+  packet-holds side clock (Refused cause offset) is = omega (arith, cause-answer cause .0)
   packet-holds side clock (Tcp k g) is = record {
     side = side;
     clock = clock;

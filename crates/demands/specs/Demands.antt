@@ -8,7 +8,7 @@ use Rattle.octets.specs.Overwrite.{overwrite}
 use Rattle.address.specs.declared.Version.{Version}
 use Rattle.address.specs.declared.Version.the-variants.{V4}
 use Rattle.packet.specs.Read.{readIPv4}
-use Rattle.packet.specs.Reader.{BrokenAt, ReaderOf}
+use Rattle.packet.specs.Reader.{PacketAnswer, BrokenAt, ReaderOf}
 use Rattle.packet.specs.declared.PacketRead.{PacketRead}
 use Rattle.rows.specs.Rows.{nowhere}
 use Rattle.entry.specs.Layout.{entrySize, placeAt}
@@ -36,8 +36,8 @@ module _ (v : Version) where
     pub blocked-keeps : (replyOf o .answer ≡ 0 → ⊥) → tableAfter v t o ≡ t
     -- 5 to 10 give the byte offset at which the packet broke (document 02, item 2): below the packet's length or, where bytes are missing, at most
     -- it; every other refusal gives place 65,535
-    pub broken-place : 5 ≤ replyOf o .answer → replyOf o .answer ≤ 10 → BrokenAt read packet (replyOf o .answer) (replyOf o .place)
-    pub blocked-place : (replyOf o .answer ≡ 0 → ⊥) → (replyOf o .answer < 5) ⊎ (10 < replyOf o .answer) → replyOf o .place ≡ nowhere
+    pub broken-place : PacketAnswer (replyOf o .answer) → BrokenAt read packet (replyOf o .answer) (replyOf o .place)
+    pub blocked-place : (replyOf o .answer ≡ 0 → ⊥) → (PacketAnswer (replyOf o .answer) → ⊥) → replyOf o .place ≡ nowhere
 
   -- a fresh table with n places: zeros but for the byte of its IP version, which is 0 in an IPv4 table
   abbrev pub freshBytes : ℕ → List ℕ
@@ -49,7 +49,7 @@ module _ (v : Version) where
     Demand1OnBytes = (side clock : ℕ) (t packet : List ℕ) → Demand1For read t packet (outcomeOf v side clock t (read packet))
 
     -- Demand 2: after every list of calls from a fresh table, the table's bytes are those of the histories' numbers modulo 2^32, each
-    -- answer and each place of the next call is what the histories on the unwrapped line give, 14, 15 and 0 by all places on it, and the table
+    -- answer and each place of the next call is its refusal's or what the histories on the unwrapped line give, 14, 15 and 0 by all places on it, and the table
     -- is sound
     abbrev pub Demand2OnBytes : Type 0
     Demand2OnBytes =

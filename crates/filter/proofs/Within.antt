@@ -1,7 +1,6 @@
 -- Answers run from 0 to 15, 5 to 10 are the reader's with their offsets, and what a pass writes lies in the table.
 use Prim.Native.Nat.{ℕ, _+_, _≤_, _<_}
 use mathlib.Core.Path.{_≡_, refl}
-use mathlib.Core.Logic.{_⊎_, inl, inr, ⊎-elim}
 use mathlib.Core.List.{List}
 use native.Mathlib.Omega.{arith}
 use lib.ListN.{length}
@@ -9,21 +8,19 @@ use borrow.Author.Tests.{not-false}
 use Rattle.choice.proofs.Choice.{if-either, if-cases, if-=, if-=-not}
 use Rattle.address.specs.declared.Flow.{Flow}
 use Rattle.address.specs.declared.Version.{Version}
-use Rattle.address.specs.declared.Version.the-variants.{V4}
 use Rattle.segment.specs.declared.Segment.{Segment}
-use Rattle.packet.specs.Read.{readIPv4, causeNumber}
-use Rattle.packet.specs.Reader.{BrokenAt, ReaderOf}
+use Rattle.packet.specs.Read.{causeNumber}
+use Rattle.packet.specs.Reader.{PacketAnswer, BrokenAt, ReaderOf}
 use Rattle.packet.specs.declared.Cause.{Cause}
 use Rattle.packet.specs.declared.PacketRead.{PacketRead}
 use Rattle.packet.specs.declared.PacketRead.the-variants.{Refused, Tcp}
-use Rattle.packet.proofs.Causes.{cause-5-to-10}
-use Rattle.packet.proofs.Readable.{ipv4-reader}
+use Rattle.packet.proofs.Causes.{cause-answer}
 use Rattle.rows.specs.Rows.{Blocked, Passed, nowhere, filter, clockUsed}
 use Rattle.rows.specs.Connections.{connections}
 use Rattle.rows.proofs.Rows.{Comes, blocks, passes, makes, comes}
 use Rattle.entry.specs.Layout.{entrySize, placeAt}
 use Rattle.entry.proofs.Places.{place-inside}
-use Rattle.filter.specs.Call.{Outcome, placesIn, tableOf, askOf, rows5to10, outcomeOf, ipv4Outcome, replyOf, tableAfter}
+use Rattle.filter.specs.Call.{Outcome, placesIn, tableOf, askOf, rows5to10, outcomeOf, replyOf, tableAfter}
 use Rattle.filter.specs.Decision.{decisionOf, tableLeftBy, PassInside}
 use Rattle.filter.specs.declared.Decision.{Decision}
 use Rattle.filter.specs.declared.Reply.{Reply}
@@ -31,24 +28,21 @@ use Rattle.filter.proofs.Rows.{legal-length-bounds, places-inside, plac
 
 -- the reader's cause and offset, or another row's number and no place
 pub data Placed (read : PacketRead) (n place : ℕ) : Type 0 where
-  by-packet : (cause : Cause) → read ≡ Refused cause place → n ≡ causeNumber cause → Placed read n place
-  elsewhere : (n < 5) ⊎ (10 < n) → place ≡ nowhere → Placed read n place
+  by-reader : (cause : Cause) → read ≡ Refused cause place → n ≡ causeNumber cause → Placed read n place
+  by-other-row : (PacketAnswer n → ⊥) → place ≡ nowhere → Placed read n place
 
 -- 5 to 10 are the reader's
 pub broken-at :
     (v : Version) (read : List ℕ → PacketRead) → ReaderOf v read →
-    (p : List ℕ) (n place : ℕ) → Placed (read p) n place → 5 ≤ n → n ≤ 10 → BrokenAt read p n place
-broken-at v read reader p n place (by-packet cause is numbered) from-5 to-10 =
-    record { cause = cause; refused = is; answered = numbered; points = reader .offset p cause place is }
-broken-at v read reader p n place (elsewhere other none) from-5 to-10 =
-    ⊎-elim (λ (low : n < 5). absurd (omega arith)) (λ (high : 10 < n). absurd (omega arith)) other
+    (p : List ℕ) (n place : ℕ) → Placed (read p) n place → PacketAnswer n → BrokenAt read p n place
+broken-at v read reader p n place (by-reader cause is numbered) answer =
+    record { cause = cause; refused = is; answered = numbered; points = reader .points p cause place is }
+broken-at v read reader p n place (by-other-row other none) answer = absurd (other answer)
 
 -- and no other has a place
-pub unplaced : (read : PacketRead) (n place : ℕ) → Placed read n place → (n < 5) ⊎ (10 < n) → place ≡ nowhere
-unplaced read n place (by-packet cause is numbered) other =
-    let answer = cause-5-to-10 cause in
-    ⊎-elim (λ (low : n < 5). absurd (omega (arith, answer .0))) (λ (high : 10 < n). absurd (omega (arith, answer .1))) other
-unplaced read n place (elsewhere other none) _ = none
+pub unplaced : (read : PacketRead) (n place : ℕ) → Placed read n place → (PacketAnswer n → ⊥) → place ≡ nowhere
+unplaced read n place (by-reader cause is numbered) other = absurd (other (rw numbered (cause-answer cause)))
+unplaced read n place (by-other-row other none) _ = none
 
 -- an answer from 1 to 15, or one of at most 512 places, inside the table
 abbrev pub Within : Version → List ℕ → PacketRead → Outcome → Type 0
@@ -81,14 +75,14 @@ module _ (v : Version) (t : List ℕ) (long : placeAt v 1 ≤ length t) (short :
   comes-within :
       (now side : ℕ) (k : Flow) (g : Segment) (read : PacketRead) (o : Outcome) → Comes connections (tableOf v t) now side k g o →
       Within v t read o
-  comes-within now side k g read o (blocks n is low high) = rw is (omega (arith, low), high, elsewhere (inr (omega (arith, low))) refl)
+  comes-within now side k g read o (blocks n is low high) = rw is (omega (arith, low), high, by-other-row (λ answer. omega (arith, low, answer .1)) refl)
   comes-within now side k g read o (passes p is _ inside _ _) = rw is (place-within p inside)
   comes-within now side k g read o (makes p is _ inside _) = rw is (place-within p inside)
 
   read-within :
       (side clock : ℕ) (read : PacketRead) →
       Within v t read (rows5to10 Blocked read (λ k g. filter connections (tableOf v t) (askOf side clock k g)))
-  read-within side clock (Refused cause offset) = let h = cause-5-to-10 cause in (omega (arith, h .0), omega (arith, h .1), by-packet cause refl refl)
+  read-within side clock (Refused cause offset) = let h = cause-answer cause in (omega (arith, h .0), omega (arith, h .1), by-reader cause refl refl)
   read-within side clock (Tcp k g) =
       let now = clockUsed connections (tableOf v t) (askOf side clock k g) in
       comes-within now side k g (Tcp k g) _ (comes connections (tableOf v t) now side k g)
@@ -97,24 +91,28 @@ module _ (v : Version) (side clock : ℕ) (t : List ℕ) (read : PacketRead) whe
   pub outcome-within : Within v t read (outcomeOf v side clock t read)
   unfolding outcomeOf
   outcome-within =
-      if-either (Within v t read) _ _ _ (omega arith, omega arith, elsewhere (inl (omega arith)) refl)
-      (if-either (Within v t read) _ _ _ (omega arith, omega arith, elsewhere (inl (omega arith)) refl)
-      (if-cases (Within v t read) _ _ _ (λ _. (omega arith, omega arith, elsewhere (inl (omega arith)) refl))
-      (λ legal. if-either (Within v t read) _ _ _ (omega arith, omega arith, elsewhere (inl (omega arith)) refl)
+      if-either (Within v t read) _ _ _ (omega arith, omega arith, by-other-row (λ answer. omega (arith, answer .0)) refl)
+      (if-either (Within v t read) _ _ _ (omega arith, omega arith, by-other-row (λ answer. omega (arith, answer .0)) refl)
+      (if-cases (Within v t read) _ _ _ (λ _. (omega arith, omega arith, by-other-row (λ answer. omega (arith, answer .0)) refl))
+      (λ legal. if-either (Within v t read) _ _ _ (omega arith, omega arith, by-other-row (λ answer. omega (arith, answer .0)) refl)
       (let h = legal-length-bounds v _ (not-false _ legal) in read-within v t (h .0) (h .1) side clock read))))
 
   pub decision-fits : (d : Decision) → d ≡ decisionOf (outcomeOf v side clock t read) → PassInside v t d
   decision-fits d e = rw e (within-fits v t read (outcomeOf v side clock t read) outcome-within)
 
--- an IPv4 call's answer is at most 15, and its place at most 65,535
-pub ipv4-reply-small :
-    (side clock : ℕ) (t packet : List ℕ) → let r = replyOf (ipv4Outcome side clock t packet) in (r .answer ≤ 15) × (r .place ≤ 65535)
-ipv4-reply-small side clock t packet = go (ipv4Outcome side clock t packet) (outcome-within V4 side clock t (readIPv4 packet))
+-- an answer is at most 15, and a place at most 65,535
+pub reply-small :
+    (v : Version) (read : List ℕ → PacketRead) → ReaderOf v read →
+    (side clock : ℕ) (t packet : List ℕ) →
+    let r = replyOf (outcomeOf v side clock t (read packet)) in
+    (r .answer ≤ 15) × (r .place ≤ 65535)
+reply-small v read reader side clock t packet =
+    go (outcomeOf v side clock t (read packet)) (outcome-within v side clock t (read packet))
   where
-    small : {n place : ℕ} → Placed (readIPv4 packet) n place → place ≤ 65535
-    small (by-packet cause is numbered) = omega (arith, ipv4-reader .offset packet cause _ is .headers)
-    small (elsewhere other none) = omega (arith, none)
+    small : {n place : ℕ} → Placed (read packet) n place → place ≤ 65535
+    small (by-reader cause is numbered) = omega (arith, reader .points packet cause _ is .below-120)
+    small (by-other-row other none) = omega (arith, none)
 
-    go : (o : Outcome) → Within V4 t (readIPv4 packet) o → (replyOf o .answer ≤ 15) × (replyOf o .place ≤ 65535)
+    go : (o : Outcome) → Within v t (read packet) o → (replyOf o .answer ≤ 15) × (replyOf o .place ≤ 65535)
     go (Blocked n place) h = (h .1, small (h .2))
     go (Passed p now e) h = (omega arith, omega (arith, h .0))

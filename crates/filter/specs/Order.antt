@@ -1,5 +1,5 @@
 -- "The first line that applies wins, top to bottom": calls to which one of rows 1 to 11 applies and, but for the last, a later one too. In rows 5
--- to 10 "the first cause in document 01's order counts" (document 02, item 2): each of the 14 causes, with a later one where there is any.
+-- to 10 "The first cause in document 01's order counts" (document 02, item 2): each of the 14 causes, with a later one where there is any.
 use Prim.Native.Nat.{ℕ, _-_, _^_}
 use mathlib.Core.Path.{_≡_}
 use mathlib.Core.List.{List, [], _∷_, _++_}
@@ -15,18 +15,19 @@ fresh = replicate 128 0
 abbrev unsound : List ℕ
 unsound = replicate 63 0 ++ (1 ∷ replicate 64 0)
 
--- Packets: an IPv4 header, from 10.0.0.from to 10.0.0.to, before what it carries; 20 bytes of TCP with a data offset and flags
-abbrev pub ipv4 : (version length fragment protocol sum sum' from to : ℕ) → List ℕ → List ℕ
-ipv4 version length fragment protocol sum sum' from to carried =
-    version ∷ 0 ∷ 0 ∷ length
+-- Packets: an IPv4 header, its first byte with version and length, from 10.0.0.from to 10.0.0.to, before what follows; 20 bytes of TCP with the
+-- byte of the data offset and flags
+abbrev pub ipv4 : (first length fragment protocol sum sum' from to : ℕ) → List ℕ → List ℕ
+ipv4 first length fragment protocol sum sum' from to carried =
+    first ∷ 0 ∷ 0 ∷ length
     ∷ 0 ∷ 0 ∷ fragment ∷ 0
     ∷ 64 ∷ protocol ∷ sum ∷ sum'
     ∷ 10 ∷ 0 ∷ 0 ∷ from
     ∷ 10 ∷ 0 ∷ 0 ∷ to
     ∷ carried
 
-abbrev tcp : (offset flags : ℕ) → List ℕ
-tcp offset flags = replicate 12 0 ++ (offset ∷ flags ∷ replicate 6 0)
+abbrev tcp : (words flags : ℕ) → List ℕ
+tcp words flags = replicate 12 0 ++ (words ∷ flags ∷ replicate 6 0)
 
 abbrev filtered : (side clock : ℕ) (table packet : List ℕ) → Reply
 filtered side clock table packet = replyOf (ipv4Outcome side clock table packet)

@@ -30,7 +30,7 @@ ReadPoints p (Refused cause offset) = PointsInto p cause offset
 ReadPoints p (Tcp k g) = Unit {0}
 
 inside : {p : List ℕ} {cause : Cause} {offset : ℕ} → offset < length p → offset < 120 → PointsInto p cause offset
-inside given headers = record { given = inl given; headers = headers }
+inside given below = record { given = inl given; below-120 = below }
 
 -- Rows 9 and 10, of every version
 
@@ -46,7 +46,7 @@ module _ (v : Version) (addresses : ℕ) (p : List ℕ) (h t : ℕ) (short : h �
   rows9to10-point : ReadPoints p (rows9to10 v addresses p h t)
   unfolding rows9to10
   rows9to10-point =
-      if-cases (ReadPoints p) _ _ _ (λ _. record { given = inr (inr refl, omega arith); headers = omega arith }) λ e.
+      if-cases (ReadPoints p) _ _ _ (λ _. record { given = inr (inr refl, omega arith); below-120 = omega arith }) λ e.
       let room : 20 ≤ t - h = ltb-false (t - h) 20 e in
       if-either (ReadPoints p) _ _ _ (inside (omega arith) (omega arith))
       (if-either (ReadPoints p) _ _ _ (inside (omega arith) (omega arith))
@@ -75,7 +75,7 @@ module _ (p : List ℕ) where
   ipv4Header-points =
       let h : ℕ = headerLength p in
       let t : ℕ = totalLength p in
-      if-cases (HeaderPoints p) _ _ _ (λ _. record { given = inr (inl refl, omega arith); headers = omega arith }) λ whole.
+      if-cases (HeaderPoints p) _ _ _ (λ _. record { given = inr (inl refl, omega arith); below-120 = omega arith }) λ whole.
       let room : 20 ≤ length p = ltb-false (length p) 20 whole in
       if-either (HeaderPoints p) _ _ _ (inside (omega arith) (omega arith))
       (if-either (HeaderPoints p) _ _ _ (inside (omega arith) (omega arith))

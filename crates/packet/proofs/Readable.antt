@@ -172,7 +172,7 @@ reader-of v addresses header span points = record {
   segment = λ p k g octets e.
       let s = stands v addresses p k g (header p) e in
       rw (s .segment) (segmentOf-readable p (s .h) (s .t) octets (span p (s .h) (s .t) octets (s .carries)) (s .fine));
-  offset = λ p. header-points v addresses p (header p) (points p);
+  points = λ p. header-points v addresses p (header p) (points p);
 }
 
 pub ipv4-reader : ReaderOf V4 readIPv4

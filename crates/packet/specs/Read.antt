@@ -15,7 +15,7 @@ use Rattle.segment.specs.declared.Segment.{Segment}
 use Rattle.packet.specs.Header.{version, headerLength, totalLength, moreFragments, fragmentOffset, protocol, sequenceNumber, acknowledgmentNumber, dataOffset, controlBits, window}
 use Rattle.checksum.specs.Sum.{onesSum}
 use Rattle.packet.specs.declared.Cause.{Cause}
-use Rattle.packet.specs.declared.Cause.the-variants.{Short, OtherVersion, HeaderLength, TotalBelowHeader, TotalAboveGiven, HeaderSum, Fragment, Protocol, TcpShort, OffsetBelowFive, OffsetPastTotal, SynFinRst, NoSynAckRst, SynPayload}
+use Rattle.packet.specs.declared.Cause.the-variants.{Short, OtherVersion, HeaderLength, TotalBelowHeader, TotalAboveGiven, HeaderSum, Fragment, Protocol, TcpShort, DataOffsetBelowFive, DataOffsetPastTotal, SynFinRst, NoSynAckRst, SynPayload}
 use Rattle.packet.specs.declared.FlagCheck.{FlagCheck}
 use Rattle.packet.specs.declared.FlagCheck.the-variants.{BadFlags, Fine}
 use Rattle.packet.specs.declared.IpRead.{IpRead}
@@ -36,13 +36,14 @@ causeNumber HeaderSum = 6
 causeNumber Fragment = 7
 causeNumber Protocol = 8
 causeNumber TcpShort = 9
-causeNumber OffsetBelowFive = 9
-causeNumber OffsetPastTotal = 9
+causeNumber DataOffsetBelowFive = 9
+causeNumber DataOffsetPastTotal = 9
 causeNumber SynFinRst = 10
 causeNumber NoSynAckRst = 10
 causeNumber SynPayload = 10
 
--- document 02, item 2, "where it broke": the offset of each cause in an IPv4 packet, from the packet's first byte
+-- document 02, item 2, "where it broke": the offset of each cause from the packet's first byte; 5 to 8 as IPv4's header has its fields, 9 and 10
+-- as TCP's has, whatever version carries it
 abbrev pub causeOffset : ℕ → Cause → ℕ
 -- "5: 0 for the first three causes, 2 for total length"
 causeOffset h Short = 0
@@ -56,8 +57,8 @@ causeOffset h Fragment = 6
 causeOffset h Protocol = 9
 -- "9: h if under 20 bytes follow, else h + 12"
 causeOffset h TcpShort = h
-causeOffset h OffsetBelowFive = h + 12
-causeOffset h OffsetPastTotal = h + 12
+causeOffset h DataOffsetBelowFive = h + 12
+causeOffset h DataOffsetPastTotal = h + 12
 -- "10: h + 13"
 causeOffset h SynFinRst = h + 13
 causeOffset h NoSynAckRst = h + 13
@@ -133,8 +134,8 @@ unfoldable pub rows9to10 : Version → ℕ → List ℕ → ℕ → ℕ → Pack
 rows9to10 v addresses p h t =
     -- 9: under 20 bytes follow the IP header within total length; TCP data offset under 5 words or past total length
     if t - h <ᵇ 20 then refusal h TcpShort
-    else if dataOffset p h <ᵇ 20 then refusal h OffsetBelowFive
-    else if t - h <ᵇ dataOffset p h then refusal h OffsetPastTotal
+    else if dataOffset p h <ᵇ 20 then refusal h DataOffsetBelowFive
+    else if t - h <ᵇ dataOffset p h then refusal h DataOffsetPastTotal
     else onFlags h (row10 (controlBits p h) (payload p h t)) (Tcp (flowAt v p addresses h) (segmentOf p h t))
 
 -- The whole: what the IP header refuses, and then what TCP's does
@@ -152,7 +153,7 @@ Inside v addresses p (BadHeader cause offset) = Unit {0}
 Inside v addresses p (CarriesTcp h t) =
     (addresses + addressSize v + addressSize v ≤ h) × (h ≤ t) × (t ≤ length p) × (t - h < 2 ^ 16)
 
--- of a refusal; 0 where there is none
-abbrev pub refusalNumber : PacketRead → ℕ
-refusalNumber (Refused cause offset) = causeNumber cause
-refusalNumber (Tcp k g) = 0
+-- the documents' answer and offset of a refusal; 0 and 0 where there is none
+abbrev pub answerAndOffset : PacketRead → ℕ × ℕ
+answerAndOffset (Refused cause offset) = (causeNumber cause, offset)
+answerAndOffset (Tcp k g) = (0, 0)

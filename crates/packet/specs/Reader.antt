@@ -20,11 +20,15 @@ use Rattle.packet.specs.declared.PacketRead.the-variants.{Refused, Tcp}
 abbrev pub BytesMissing : Cause → Type 0
 BytesMissing cause = (cause ≡ Short) ⊎ (cause ≡ TcpShort)
 
--- an offset points into the packet's bytes or, where some are missing, right behind them at most; and into the two headers, each of which has
--- at most 60 bytes
+-- an offset is below the packet's length or, where bytes are missing, at most it; and below 120, the most bytes that an IP and a TCP header
+-- have together
 pub record PointsInto (p : List ℕ) (cause : Cause) (offset : ℕ) : Type 0 where
   pub given : (offset < length p) ⊎ (BytesMissing cause × (offset ≤ length p))
-  pub headers : offset < 120
+  pub below-120 : offset < 120
+
+-- the answers of a refused packet, which are those that causes have
+abbrev pub PacketAnswer : ℕ → Type 0
+PacketAnswer n = (5 ≤ n) × (n ≤ 10)
 
 -- a reader refuses a packet by a cause with this answer, and the packet broke at this offset, which points into it
 pub record BrokenAt (read : List ℕ → PacketRead) (p : List ℕ) (answer offset : ℕ) : Type 0 where
@@ -38,4 +42,4 @@ pub record BrokenAt (read : List ℕ → PacketRead) (p : List ℕ) (answer offs
 pub record ReaderOf (v : Version) (read : List ℕ → PacketRead) : Type 0 where
   pub flow : (p : List ℕ) (k : Flow) (g : Segment) → Octets p → read p ≡ Tcp k g → IsFlow v k
   pub segment : (p : List ℕ) (k : Flow) (g : Segment) → Octets p → read p ≡ Tcp k g → Readable g
-  pub offset : (p : List ℕ) (cause : Cause) (offset : ℕ) → read p ≡ Refused cause offset → PointsInto p cause offset
+  pub points : (p : List ℕ) (cause : Cause) (offset : ℕ) → read p ≡ Refused cause offset → PointsInto p cause offset

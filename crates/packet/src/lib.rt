@@ -1,5 +1,5 @@
-// Reads a packet with one TCP segment: answers 5 to 10 of document 01, or the flow and the segment. The IP version decides rows 5 to 8
-// and where the addresses stand; rows 9 and 10 are TCP's. There is a reader of IPv4.
+// Reads a packet with one TCP segment: answers 5 to 10 of document 01 with the byte offset at which it broke, or the flow and the segment. The
+// IP version decides rows 5 to 8 and where the addresses stand; rows 9 and 10 are TCP's. There is a reader of IPv4.
 ghost use mathlib.Core.Path.{_≡_};
 ghost use Prim.Native.Nat.{_+_, _-_, _^_, _≤_, _<_};
 ghost use lib.ListN.{length};
@@ -7,7 +7,7 @@ ghost use Rattle.address.specs.Address.{addressSize};
 ghost use Rattle.segment.specs.Flags.{control};
 ghost use Rattle.packet.specs.Header.{dataOffset};
 ghost use Rattle.packet.specs.Read.{rows6to8, ipv4Header, ipv4Addresses, segmentOf, row10, rows9to10, readIPv4, Inside};
-ghost use Rattle.packet.specs.Read.{causeNumber, refusalNumber};
+ghost use Rattle.packet.specs.Read.{causeNumber, answerAndOffset};
 use address::Flow;
 use address::Version;
 use address::read_flow;
@@ -39,9 +39,9 @@ pub enum Cause {
     // 9: under 20 bytes follow the IP header within total length.
     TcpShort,
     // 9: TCP data offset under 5 words.
-    OffsetBelowFive,
+    DataOffsetBelowFive,
     // 9: TCP data offset past total length.
-    OffsetPastTotal,
+    DataOffsetPastTotal,
     // 10: SYN with FIN or RST.
     SynFinRst,
     // 10: none of SYN, ACK, RST.
@@ -83,8 +83,8 @@ impl Cause {
             Cause::Fragment => 7,
             Cause::Protocol => 8,
             Cause::TcpShort => 9,
-            Cause::OffsetBelowFive => 9,
-            Cause::OffsetPastTotal => 9,
+            Cause::DataOffsetBelowFive => 9,
+            Cause::DataOffsetPastTotal => 9,
             Cause::SynFinRst => 10,
             Cause::NoSynAckRst => 10,
             Cause::SynPayload => 10,
@@ -126,8 +126,8 @@ fn read_segment(s: &[u8], h: usize, t: usize) -> Segment
     ensures { λ r. ⌜ r ≡ segmentOf (now (s .entry)) h t ⌝ }
 {
     let flags = s[h + 13];
-    let offset = s[h + 12] as usize / 16 * 4;
-    let payload = (t - h - offset) as u32;
+    let data_offset = s[h + 12] as usize / 16 * 4;
+    let payload = (t - h - data_offset) as u32;
     let syn = (flags / 2 % 2) as u32;
     let fin = (flags % 2) as u32;
     let octets = payload + syn + fin;
@@ -153,10 +153,10 @@ fn read_tcp(version: Version, addresses: usize, s: &[u8], h: usize, t: usize) ->
     }
     let data_offset = s[data_offset_at] as usize / 16 * 4;
     if data_offset < 20 {
-        return PacketRead::Refused(Cause::OffsetBelowFive, data_offset_at);
+        return PacketRead::Refused(Cause::DataOffsetBelowFive, data_offset_at);
     }
     if t - h < data_offset {
-        return PacketRead::Refused(Cause::OffsetPastTotal, data_offset_at);
+        return PacketRead::Refused(Cause::DataOffsetPastTotal, data_offset_at);
     }
     let check = check_flags(s[flags_at], t - h - data_offset);
     match check {
@@ -212,7 +212,7 @@ fn read_ipv4_header(s: &[u8]) -> IpRead
 
 // Reads an IPv4 packet; bytes past its total length are ignored.
 pub fn read_ipv4(s: &[u8]) -> PacketRead
-    ensures { λ r. ⌜ (r ≡ readIPv4 (now (s .entry))) × (refusalNumber r ≡ refusalNumber (readIPv4 (now (s .entry)))) ⌝ }
+    ensures { λ r. ⌜ (r ≡ readIPv4 (now (s .entry))) × (answerAndOffset r ≡ answerAndOffset (readIPv4 (now (s .entry)))) ⌝ }
 {
     let header = read_ipv4_header(s);
     match header {

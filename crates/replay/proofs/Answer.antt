@@ -30,11 +30,11 @@ use Rattle.packet.specs.declared.PacketRead.the-variants.{Refused}
 use Rattle.packet.proofs.Readable.{ipv4-reader}
 use Rattle.filter.specs.Call.{Outcome, ipv4Outcome, replyOf, tableAfter}
 use Rattle.filter.specs.declared.Reply.{Reply}
-use Rattle.filter.proofs.Within.{Placed, by-packet, elsewhere, broken-at, Within, outcome-within, ipv4-reply-small}
+use Rattle.filter.proofs.Within.{Placed, by-reader, by-other-row, broken-at, Within, outcome-within, reply-small}
 use Rattle.replay.specs.Feed.{Memory, memory, withAnswer, withUsed, withResult, withLine, withTotal}
 use Rattle.replay.specs.Written.{lineRoom, resultRoom}
 use Rattle.replay.specs.declared.Progress.{Progress}
-use Rattle.replay.specs.Printed.{Result, room, ofCall, ofRead, resultOf, Never23, ShowsOffset, OffsetShown}
+use Rattle.replay.specs.Printed.{Result, room, ofCall, ofRead, resultOf, Never23, ShowsOffset, EveryLineShowsOffset}
 
 -- The reader's answer
 
@@ -91,7 +91,7 @@ unfolding readAnswer
 read-never-23 line t TooLong b e = omega arith
 read-never-23 line t (Malformed offset) b e = omega arith
 read-never-23 line t NoRoom b e = b
-read-never-23 line t (Frame side clock n) b e = omega (arith, ipv4-reply-small side clock t (linePacket line) .0)
+read-never-23 line t (Frame side clock n) b e = omega (arith, reply-small V4 readIPv4 ipv4-reader side clock t (linePacket line) .0)
 
 pub never-23 : Never23
 unfolding resultOf
@@ -104,28 +104,26 @@ module _ (t packet : List ℕ) where
       (place < 120) × (ofCall t (Blocked n place) .shown ≡ Number place)
   unfolding shownPlace
   offset-number n place cause is =
-      let below = ipv4-reader .offset packet cause place is .headers in
+      let below = ipv4-reader .points packet cause place is .below-120 in
       (below, if-=-not Dash (Number place) (λ (none : place ≡ 65535). omega (arith, below)))
 
-  call-shown : (o : Outcome) → Within V4 t (readIPv4 packet) o → 5 ≤ ofCall t o .answer → ofCall t o .answer ≤ 10 → ShowsOffset packet (ofCall t o)
-  call-shown (Blocked n place) within from-5 to-10 =
-      let broken = broken-at V4 readIPv4 ipv4-reader packet n place (within .2) from-5 to-10 in
-      record { offset = place; broken = broken; shown = offset-number n place (broken .cause) (broken .refused) .1 }
-  call-shown (Passed p now e) within from-5 to-10 = absurd (omega (arith, from-5))
+  call-shown : (o : Outcome) → Within V4 t (readIPv4 packet) o → ShowsOffset packet (ofCall t o)
+  call-shown (Blocked n place) within answer =
+      let broken = broken-at V4 readIPv4 ipv4-reader packet n place (within .2) answer in
+      (place, broken, offset-number n place (broken .cause) (broken .refused) .1)
+  call-shown (Passed p now e) within answer = absurd (omega (arith, answer .0))
 
-read-shown :
-    (line t : List ℕ) (read : LineRead) → 5 ≤ ofRead read line t .answer → ofRead read line t .answer ≤ 10 →
-    ShowsOffset (linePacket line) (ofRead read line t)
+read-shown : (line t : List ℕ) (read : LineRead) → ShowsOffset (linePacket line) (ofRead read line t)
 unfolding readAnswer
-read-shown line t TooLong from-5 to-10 = absurd (omega (arith, to-10))
-read-shown line t (Malformed offset) from-5 to-10 = absurd (omega (arith, to-10))
-read-shown line t NoRoom from-5 to-10 = absurd (omega (arith, to-10))
-read-shown line t (Frame side clock n) from-5 to-10 =
-    call-shown t (linePacket line) (ipv4Outcome side clock t (linePacket line)) (outcome-within V4 side clock t (readIPv4 (linePacket line))) from-5 to-10
+read-shown line t TooLong answer = absurd (omega (arith, answer .1))
+read-shown line t (Malformed offset) answer = absurd (omega (arith, answer .1))
+read-shown line t NoRoom answer = absurd (omega (arith, answer .1))
+read-shown line t (Frame side clock n) answer =
+    call-shown t (linePacket line) (ipv4Outcome side clock t (linePacket line)) (outcome-within V4 side clock t (readIPv4 (linePacket line))) answer
 
-pub offset-shown : OffsetShown
+pub every-line-shows-offset : EveryLineShowsOffset
 unfolding resultOf
-offset-shown line t = read-shown line t (readLine line room)
+every-line-shows-offset line t = read-shown line t (readLine line room)
 
 -- a line that is cut where it is too long already is still too long
 pub resultOf-cut : (line t : List ℕ) → resultOf (take lineRoom line) t ≡ resultOf line t
@@ -158,10 +156,10 @@ number-short t answer n small below =
 module _ (t packet : List ℕ) where
   refusal-short : (n place : ℕ) → n ≤ 15 → Placed (readIPv4 packet) n place → Short (ofCall t (Blocked n place))
   unfolding shownPlace
-  refusal-short n place most (by-packet cause is numbered) =
+  refusal-short n place most (by-reader cause is numbered) =
       let shown = offset-number t packet n place cause is in
       rw (shown .1) (number-short t n place (omega arith) (omega (arith, shown .0)))
-  refusal-short n place most (elsewhere other none) = rw (if-= Dash (Number place) none) (dash-short t n (omega arith))
+  refusal-short n place most (by-other-row other none) = rw (if-= Dash (Number place) none) (dash-short t n (omega arith))
 
   call-short : (o : Outcome) → Within V4 t (readIPv4 packet) o → Short (ofCall t o)
   unfolding shownPlace

@@ -1,5 +1,5 @@
 -- What is printed of a trace (document 01, "Trace lines"), told of the whole input. Input, lines and text are lists of bytes.
-use Prim.Native.Nat.{ℕ, _+_, _≤_}
+use Prim.Native.Nat.{ℕ, _+_}
 use mathlib.Core.Path.{_≡_}
 use mathlib.Core.List.{List, [], _∷_, _++_}
 use lib.ListN.{length}
@@ -13,7 +13,7 @@ use Rattle.report.specs.declared.Shown.{Shown}
 use Rattle.report.specs.declared.Shown.the-variants.{Number, Dash}
 use Rattle.address.specs.declared.Version.the-variants.{V4}
 use Rattle.packet.specs.Read.{readIPv4}
-use Rattle.packet.specs.Reader.{BrokenAt}
+use Rattle.packet.specs.Reader.{PacketAnswer, BrokenAt}
 use Rattle.filter.specs.Call.{Outcome, ipv4Outcome, replyOf, tableAfter}
 
 -- Lines
@@ -60,15 +60,12 @@ resultOf line t = ofRead (readLine line room) line t
 abbrev pub Never23 : Type 0
 Never23 = (line t : List ℕ) → resultOf line t .answer ≡ 23 → ⊥
 
--- the answer is the packet reader's, and what is shown after it is the offset at which the packet broke
-pub record ShowsOffset (packet : List ℕ) (s : Result) : Type 0 where
-  pub offset : ℕ
-  pub broken : BrokenAt readIPv4 packet (s .answer) offset
-  pub shown : s .shown ≡ Number offset
+-- after 5 to 10 the offset is shown at which the packet broke, never `-`
+abbrev pub ShowsOffset : List ℕ → Result → Type 0
+ShowsOffset packet s = PacketAnswer (s .answer) → (offset : ℕ) × BrokenAt readIPv4 packet (s .answer) offset × (s .shown ≡ Number offset)
 
--- so it is for 5 to 10: never `-`
-abbrev pub OffsetShown : Type 0
-OffsetShown = (line t : List ℕ) → let s = resultOf line t in 5 ≤ s .answer → s .answer ≤ 10 → ShowsOffset (linePacket line) s
+abbrev pub EveryLineShowsOffset : Type 0
+EveryLineShowsOffset = (line t : List ℕ) → ShowsOffset (linePacket line) (resultOf line t)
 
 -- The whole input
 

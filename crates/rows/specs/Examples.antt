@@ -121,7 +121,7 @@ pub record RowsGive : Type 0 where
   pub row-0-opening : answer busy strangersSyn ≡ 0
   pub place-found : place busy (tenOctets 100) ≡ 21
   pub place-taken : place busy strangersSyn ≡ 20
-  -- every other answer gives place 65,535
+  -- every refusal of these rows gives place 65,535
   pub place-none : place full strangersSyn ≡ 65535
   -- and changes nothing, the clock neither
   pub left-blocked : left full strangersSyn ≡ full

@@ -49,7 +49,7 @@ isOpening side g = (side =ᵇ 0) && (g .flags =ᵇ SYN)
 abbrev pub otherSide : ℕ → ℕ
 otherSide side = 1 - side
 
--- "Every other answer gives place 65,535": than a pass and, by document 02, item 2, than 5 to 10, which give a byte offset
+-- "Every other answer gives place 65,535": every one but a pass and, by document 02, item 2, 5 to 10
 abbrev pub nowhere : ℕ
 nowhere = 65535
 
@@ -189,7 +189,7 @@ module _ (B : Bodies) where
   after v (Blocked n place) = v
   after v (Passed p now e) = record { clock = now; places = v .places; entry = λ q. if q =ᵇ p then e else v .entry q }
 
--- a view's places have these numbers in the table
+-- a view's places have these numbers in the table; a refusal's place is its own
 abbrev pub placeBy : {B : Bodies} → (ℕ → ℕ) → Outcome B → ℕ
 placeBy number (Blocked n place) = place
 placeBy number (Passed p now e) = number p

@@ -2,7 +2,7 @@
 use mathlib.Core.Path.{sym, ap, subst, _∙_}
 use native.Mathlib.Omega.{arith}
 use Rattle.address.specs.declared.Version.the-variants.{V4}
-use Rattle.packet.specs.Read.{ipv4Addresses, onHeader, Inside, refusalNumber}
+use Rattle.packet.specs.Read.{ipv4Addresses, onHeader, Inside, answerAndOffset}
 use borrow.Author.Needs.{needs}
 use Rattle.packet.proofs.read_ipv4.Statement.{statement}
 use Rattle.packet.proofs.read_ipv4.Tie as tie
@@ -28,14 +28,14 @@ returns c =
     let k = c .before .before .before in
     let same = sym (c .before .header .given .1) ∙ k .read-ipv4-header .ensures .0 in
     let e = ap (onHeader V4 ipv4Addresses (k .before .before .args .s .now)) same in
-    (e, ap refusalNumber e)
+    (e, ap answerAndOffset e)
 
 returns-2 : tie.Need-returns-2
 returns-2 c =
     let k = c .before .before .before .before in
     let same = sym (c .before .before .header2 .given .1) ∙ k .read-ipv4-header .ensures .0 in
     let e = c .read-tcp .ensures ∙ ap (onHeader V4 ipv4Addresses (k .before .before .args .s .now)) same in
-    (e, ap refusalNumber e)
+    (e, ap answerAndOffset e)
 
 pub read-ipv4-spec : {M : Type 1} → statement M
 read-ipv4-spec =

@@ -4,7 +4,7 @@ use mathlib.Core.Path.{sym, ap, _∙_}
 use native.Mathlib.Omega.{arith}
 use Rattle.choice.proofs.Choice.{if-<, if-<-not}
 use Rattle.packet.specs.Read.{causeOffset, rows9to10}
-use Rattle.packet.specs.declared.Cause.the-variants.{TcpShort, OffsetBelowFive, OffsetPastTotal}
+use Rattle.packet.specs.declared.Cause.the-variants.{TcpShort, DataOffsetBelowFive, DataOffsetPastTotal}
 use Rattle.packet.specs.declared.PacketRead.the-variants.{Refused, Tcp}
 use Rattle.packet.proofs.Flags.{flags-offset}
 use Rattle.packet.proofs.Read.{refused-row10, past-row10}
@@ -37,7 +37,7 @@ mul-data-offset c = omega (arith, c .shared-slice-known2 .given (c .before .befo
 returns-2 : tie.Need-returns-2
 unfolding rows9to10
 returns-2 c =
-    ap (Refused OffsetBelowFive) (omega arith)
+    ap (Refused DataOffsetBelowFive) (omega arith)
     ∙ sym (if-<-not _ _ (c .before .before .if1 .left) ∙ if-< _ _ (c .if2 .taken))
 
 sub-if3 : tie.Need-sub-if3
@@ -46,7 +46,7 @@ sub-if3 c = search needs
 returns-3 : tie.Need-returns-3
 unfolding rows9to10
 returns-3 c =
-    ap (Refused OffsetPastTotal) (omega arith)
+    ap (Refused DataOffsetPastTotal) (omega arith)
     ∙ sym (if-<-not _ _ (c .before .before .before .if1 .left) ∙ if-<-not _ _ (c .before .if2 .left) ∙ if-< _ _ (c .if3 .taken))
 
 shared-slice-read-check-flags : tie.Need-shared-slice-read-check-flags
