@@ -53,8 +53,10 @@ int main(void) {
     uint8_t side;
     uint64_t clock;
     size_t length, offset;
-    if (qb_read_line((const uint8_t *)trace[0], strlen(trace[0]), damaged, sizeof damaged, &side, &clock, &length, &offset) != 0)
+    if (qb_read_line((const uint8_t *)trace[0], strlen(trace[0]), damaged, sizeof damaged, &side, &clock, &length, &offset) != 0) {
+        fprintf(stderr, "the first line is not read again\n");
         return 1;
+    }
     damaged[8]--;
     uint32_t refused = qb_filter(side, clock, table, sizeof table, damaged, length);
     if (qb_answer(refused) != 6 || qb_place(refused) != 10) {

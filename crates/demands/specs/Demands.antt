@@ -49,8 +49,8 @@ module _ (v : Version) where
     Demand1OnBytes = (side clock : ℕ) (t packet : List ℕ) → Demand1For read t packet (outcomeOf v side clock t (read packet))
 
     -- Demand 2: after every list of calls from a fresh table, the table's bytes are those of the histories' numbers modulo 2^32, each
-    -- answer and each place of the next call is its refusal's or what the histories on the unwrapped line give, 14, 15 and 0 by all places on it, and the table
-    -- is sound
+    -- answer and each place of the next call is its refusal's or what the histories on the unwrapped line give, 14, 15 and 0 by all places
+    -- on it, and the table is sound
     abbrev pub Demand2OnBytes : Type 0
     Demand2OnBytes =
         (n : ℕ) → 1 ≤ n → n ≤ 512 → (l : List BytesCall) →

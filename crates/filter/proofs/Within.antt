@@ -36,7 +36,7 @@ pub broken-at :
     (v : Version) (read : List ℕ → PacketRead) → ReaderOf v read →
     (p : List ℕ) (n place : ℕ) → Placed (read p) n place → PacketAnswer n → BrokenAt read p n place
 broken-at v read reader p n place (by-reader cause is numbered) answer =
-    record { cause = cause; refused = is; answered = numbered; points = reader .points p cause place is }
+    record { cause = cause; read-as = is; numbered = numbered; points = reader .points p cause place is }
 broken-at v read reader p n place (by-other-row other none) answer = absurd (other answer)
 
 -- and no other has a place

@@ -15,19 +15,18 @@ fresh = replicate 128 0
 abbrev unsound : List ℕ
 unsound = replicate 63 0 ++ (1 ∷ replicate 64 0)
 
--- Packets: an IPv4 header, its first byte with version and length, from 10.0.0.from to 10.0.0.to, before what follows; 20 bytes of TCP with the
--- byte of the data offset and flags
+-- Packets: 20 bytes of IPv4 header, the first with version and header length, from 10.0.0.from to 10.0.0.to, before the rest; 20 bytes of TCP
 abbrev pub ipv4 : (first length fragment protocol sum sum' from to : ℕ) → List ℕ → List ℕ
-ipv4 first length fragment protocol sum sum' from to carried =
+ipv4 first length fragment protocol sum sum' from to rest =
     first ∷ 0 ∷ 0 ∷ length
     ∷ 0 ∷ 0 ∷ fragment ∷ 0
     ∷ 64 ∷ protocol ∷ sum ∷ sum'
     ∷ 10 ∷ 0 ∷ 0 ∷ from
     ∷ 10 ∷ 0 ∷ 0 ∷ to
-    ∷ carried
+    ∷ rest
 
-abbrev tcp : (words flags : ℕ) → List ℕ
-tcp words flags = replicate 12 0 ++ (words ∷ flags ∷ replicate 6 0)
+abbrev tcp : (dataOffsetByte flags : ℕ) → List ℕ
+tcp dataOffsetByte flags = replicate 12 0 ++ (dataOffsetByte ∷ flags ∷ replicate 6 0)
 
 abbrev filtered : (side clock : ℕ) (table packet : List ℕ) → Reply
 filtered side clock table packet = replyOf (ipv4Outcome side clock table packet)
@@ -54,7 +53,8 @@ pub record FirstThatApplies : Type 0 where
   pub row-6 : filtered 1 0 fresh (ipv4 0x45 40 32 6 0 0 1 2 (tcp 80 16)) ≡ gives 6 10
   pub row-7 : filtered 1 0 fresh (ipv4 0x45 40 32 17 0x46 0xc3 1 2 (tcp 80 16)) ≡ gives 7 6
   pub row-8 : filtered 1 0 fresh (ipv4 0x45 20 0 17 0x66 0xd7 1 2 []) ≡ gives 8 9
-  -- nothing behind the header, and so a data offset of 0: right behind the 20 bytes given; 4 words, and 6 of 5, without SYN, ACK and RST
+  -- nothing behind the header, and so a data offset of 0: right behind the 20 bytes given; a data offset of 4 words, and one of 6 where 5 follow,
+  -- both without SYN, ACK and RST
   pub row-9-short : filtered 1 0 fresh (ipv4 0x45 20 0 6 0x66 0xe2 1 2 []) ≡ gives 9 20
   pub row-9-below : filtered 1 0 fresh (ipv4 0x45 40 0 6 0x66 0xce 1 2 (tcp 64 0)) ≡ gives 9 32
   pub row-9-past : filtered 1 0 fresh (ipv4 0x45 40 0 6 0x66 0xce 1 2 (tcp 96 0)) ≡ gives 9 32

@@ -33,8 +33,8 @@ PacketAnswer n = (5 ≤ n) × (n ≤ 10)
 -- a reader refuses a packet by a cause with this answer, and the packet broke at this offset, which points into it
 pub record BrokenAt (read : List ℕ → PacketRead) (p : List ℕ) (answer offset : ℕ) : Type 0 where
   pub cause : Cause
-  pub refused : read p ≡ Refused cause offset
-  pub answered : answer ≡ causeNumber cause
+  pub read-as : read p ≡ Refused cause offset
+  pub numbered : answer ≡ causeNumber cause
   pub points : PointsInto p cause offset
 
 -- from octets it gives that version's addresses with 16-bit ports, and a segment as TCP's header and row 10 have it; a refusal points into

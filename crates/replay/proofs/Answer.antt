@@ -110,7 +110,7 @@ module _ (t packet : List ℕ) where
   call-shown : (o : Outcome) → Within V4 t (readIPv4 packet) o → ShowsOffset packet (ofCall t o)
   call-shown (Blocked n place) within answer =
       let broken = broken-at V4 readIPv4 ipv4-reader packet n place (within .2) answer in
-      (place, broken, offset-number n place (broken .cause) (broken .refused) .1)
+      (place, broken, offset-number n place (broken .cause) (broken .read-as) .1)
   call-shown (Passed p now e) within answer = absurd (omega (arith, answer .0))
 
 read-shown : (line t : List ℕ) (read : LineRead) → ShowsOffset (linePacket line) (ofRead read line t)

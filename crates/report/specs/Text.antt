@@ -28,7 +28,7 @@ unfoldable pub shownText : Shown → List ℕ
 shownText (Number n) = decimalText n
 shownText Dash = 45 ∷ []
 
--- a place, which is no place where it is 65,535
+-- a place or an offset in a packet; 65,535 is neither
 unfoldable pub shownPlace : ℕ → Shown
 shownPlace place = if place =ᵇ 65535 then Dash else Number place
 

@@ -7,7 +7,7 @@ ghost use Rattle.report.specs.Text.{digitCount, decimalDigits, decimalTe
 
 // What a result's line shows after the answer.
 pub enum Shown {
-    // A place, or the offset in a malformed packet or line.
+    // A place, or the offset in a refused packet or a malformed line.
     Number(usize),
     // No place.
     Dash,

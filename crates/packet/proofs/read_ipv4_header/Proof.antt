@@ -3,6 +3,8 @@ use mathlib.Core.Path.{sym, ap, _∙_}
 use native.Mathlib.Omega.{arith}
 use Rattle.choice.proofs.Choice.{if-<, if-<-not, if-≠, if-≠-not}
 use Rattle.packet.specs.Read.{rows6to8, ipv4Header}
+use Rattle.packet.specs.declared.Cause.the-variants.{TotalBelowHeader, TotalAboveGiven}
+use Rattle.packet.specs.declared.IpRead.the-variants.{BadHeader}
 use Rattle.packet.proofs.Read.{past-row5}
 use borrow.Author.Needs.{needs}
 use Rattle.packet.proofs.read_ipv4_header.Statement.{statement}
@@ -43,7 +45,8 @@ returns-4 c =
     let m = c .before .before in
     let k = m .before in
     let low = rw (c .before .read16 .ensures) at (c .if4 .taken) in (
-      sym (if-<-not _ _ (k .before .before .if1 .left) ∙ if-≠-not _ _ (k .if2 .left) ∙ if-<-not _ _ (m .if3 .left)
+      ap (BadHeader TotalBelowHeader) (omega arith)
+          ∙ sym (if-<-not _ _ (k .before .before .if1 .left) ∙ if-≠-not _ _ (k .if2 .left) ∙ if-<-not _ _ (m .if3 .left)
           ∙ if-< _ _ low),
       tt,
     )
@@ -55,7 +58,8 @@ returns-5 c =
     let k = m .before in
     let room = rw (c .before .before .read16 .ensures) at (c .before .if4 .left) in
     let above = rw (c .before .before .read16 .ensures) at (c .if5 .taken) in (
-      sym (if-<-not _ _ (k .before .before .if1 .left) ∙ if-≠-not _ _ (k .if2 .left) ∙ if-<-not _ _ (m .if3 .left)
+      ap (BadHeader TotalAboveGiven) (omega arith)
+          ∙ sym (if-<-not _ _ (k .before .before .if1 .left) ∙ if-≠-not _ _ (k .if2 .left) ∙ if-<-not _ _ (m .if3 .left)
           ∙ if-<-not _ _ room ∙ if-< _ _ above),
       tt,
     )
