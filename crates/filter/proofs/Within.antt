@@ -88,13 +88,16 @@ module _ (v : Version) (t : List ℕ) (long : placeAt v 1 ≤ length t) (short :
       comes-within now side k g (Tcp k g) _ (comes connections (tableOf v t) now side k g)
 
 module _ (v : Version) (side clock : ℕ) (t : List ℕ) (read : PacketRead) where
+  row-within : (n : ℕ) → 1 ≤ n → n ≤ 4 → Within v t read (Blocked n nowhere)
+  row-within n some most = (some, omega arith, by-other-row (λ answer. omega (arith, answer .0)) refl)
+
   pub outcome-within : Within v t read (outcomeOf v side clock t read)
   unfolding outcomeOf
   outcome-within =
-      if-either (Within v t read) _ _ _ (omega arith, omega arith, by-other-row (λ answer. omega (arith, answer .0)) refl)
-      (if-either (Within v t read) _ _ _ (omega arith, omega arith, by-other-row (λ answer. omega (arith, answer .0)) refl)
-      (if-cases (Within v t read) _ _ _ (λ _. (omega arith, omega arith, by-other-row (λ answer. omega (arith, answer .0)) refl))
-      (λ legal. if-either (Within v t read) _ _ _ (omega arith, omega arith, by-other-row (λ answer. omega (arith, answer .0)) refl)
+      if-either (Within v t read) _ _ _ (row-within 1 (omega arith) (omega arith))
+      (if-either (Within v t read) _ _ _ (row-within 2 (omega arith) (omega arith))
+      (if-cases (Within v t read) _ _ _ (λ _. row-within 3 (omega arith) (omega arith))
+      (λ legal. if-either (Within v t read) _ _ _ (row-within 4 (omega arith) (omega arith))
       (let h = legal-length-bounds v _ (not-false _ legal) in read-within v t (h .0) (h .1) side clock read))))
 
   pub decision-fits : (d : Decision) → d ≡ decisionOf (outcomeOf v side clock t read) → PassInside v t d
