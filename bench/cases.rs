@@ -5,6 +5,8 @@ use reference::filter::NO_PLACE;
 
 const LONG_HEADER: usize = 60;
 const PAYLOAD: usize = 100;
+/// What an Ethernet frame holds of a stream.
+const FULL_PAYLOAD: usize = 1460;
 
 pub struct Case {
     pub name: String,
@@ -27,6 +29,8 @@ pub fn cases() -> Vec<Case> {
         .flat_map(|(places, fill)| whole_calls(places, fill))
         .collect();
     cases.extend(tables().map(|(places, fill)| scan(places, fill)));
+    cases.extend([0, FULL_PAYLOAD].map(with_payload));
+    cases.push(full_packet());
     cases.push(long_packet());
     cases
 }
@@ -75,15 +79,44 @@ fn scan(places: usize, fill: Fill) -> Case {
     }
 }
 
+/// On 64 live places, matching the last, so that the payload alone makes the difference.
+fn with_payload(octets: usize) -> Case {
+    Case {
+        name: format!("call/64/live/last/{octets}"),
+        table: Fill::Live.table(64),
+        packet: carrying(octets, data(63)).packet(),
+        answer: 0,
+        place: 63,
+        opens: false,
+    }
+}
+
+fn full_packet() -> Case {
+    packet("packet/1460", carrying(FULL_PAYLOAD, data(0)))
+}
+
 fn long_packet() -> Case {
     let draft = Draft {
         header: LONG_HEADER,
         total: 1500,
         ..data(0)
     };
+    packet("packet/1500", draft)
+}
+
+/// On one free place, where it matches nothing.
+fn packet(name: &str, draft: Draft) -> Case {
     Case {
         packet: draft.packet(),
-        ..blocked("packet/1500".to_string(), Fill::Free.table(1), 11)
+        ..blocked(name.to_string(), Fill::Free.table(1), 11)
+    }
+}
+
+/// With so many payload octets.
+fn carrying(octets: usize, draft: Draft) -> Draft {
+    Draft {
+        total: 2 * SHORT_HEADER + octets,
+        ..draft
     }
 }
 

@@ -1,3 +1,4 @@
 pub mod Reduced
 pub mod Groups
 pub mod Parts
+pub mod Numbers

@@ -11,7 +11,7 @@ use Rattle.checksum.specs.Parts.{SumOfParts, WholeWordsNeeded, OctetsNee
 use Rattle.checksum.proofs.Reduced.{reduced≤65535, onesPlus≡reduced, reduced-add}
 use Rattle.checksum.proofs.Groups.{onesSum≡reduced-groups}
 
-onesSum≤65535 : (l : List ℕ) → Octets l → onesSum l ≤ 65535
+pub onesSum≤65535 : (l : List ℕ) → Octets l → onesSum l ≤ 65535
 onesSum≤65535 l small = rw (onesSum≡reduced-groups l small) (reduced≤65535 (256 * groupSum l))
 
 onesPlus-assoc :

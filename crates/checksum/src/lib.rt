@@ -59,7 +59,7 @@ fn folded(sum: u64) -> u64
 }
 
 // A sum with every carry added in. Three rounds are enough for what is below 2^46.
-fn carries_added(sum: u64) -> u16
+pub fn carries_added(sum: u64) -> u16
     requires { ⌜ sum < 2 ^ 46 ⌝ }
     ensures { λ r. ⌜ r ≡ reduced sum ⌝ }
 {

@@ -9,6 +9,7 @@ use Rattle.packet.specs.Reader.{ReaderOf}
 use Rattle.packet.specs.declared.PacketRead.{PacketRead}
 use Rattle.rows.specs.Rows.{Blocked, Passed}
 use Rattle.entry.specs.Viewed.{stored}
+use Rattle.packet.proofs.Causes.{packet-answer-bounds}
 use Rattle.filter.specs.Call.{Outcome, placesIn, outcomeOf}
 use Rattle.filter.proofs.Rows.{inside-places}
 use Rattle.filter.proofs.Within.{broken-at, unplaced, Within, outcome-within}
@@ -36,7 +37,7 @@ module _ (v : Version) (read : List ℕ → PacketRead) (reader : ReaderOf v rea
         passed-elsewhere = λ _ i off. byte-elsewhere v t p now (stored e) inside i (omega (arith, off .0)) (off .1);
         blocked-answer = λ not-0. absurd (not-0 refl);
         blocked-keeps = λ not-0. absurd (not-0 refl);
-        broken-place = λ answer. absurd (omega (arith, answer .0));
+        broken-place = λ answer. absurd (omega (arith, packet-answer-bounds answer .0));
         blocked-place = λ not-0. absurd (not-0 refl);
       }
 

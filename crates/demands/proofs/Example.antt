@@ -7,7 +7,8 @@ use Rattle.octets.specs.Digits.{tabulate, number, digits}
 use Rattle.octets.specs.Overwrite.{overwrite}
 use Rattle.octets.specs.BigEndian.{bigEndian, octetsOf}
 use Rattle.address.specs.Flows.{sameFlow}
-use Rattle.packet.specs.Read.{rows6to8, ipv4Header, row10, rows9to10}
+use Rattle.packet.specs.TcpSum.{tcpSum}
+use Rattle.packet.specs.Read.{rows6to8, ipv4Header, row10, tcpRows}
 use Rattle.checksum.specs.Sum.{onesPlus, onesSum}
 use Rattle.connection.specs.Decision.{sameSyn, reply, verdictUnanswered, verdictByRanges, verdictOn, opened, repeated, answered, carried, passed}
 use Rattle.connection.specs.Ends.{sent, granted, endsAfter}
@@ -20,13 +21,13 @@ use Rattle.entry.specs.Layout.{endBytes, marksBytes, flowBytes, numbersBytes, e
 use Rattle.table.specs.Table.{zerosAt, allFrom, headerClock, soundHeader, freeAt, soundAt, soundTable}
 use Rattle.filter.specs.Length.{legalLength, placesFor}
 use Rattle.filter.specs.Call.{outcomeOf}
-use Rattle.demands.specs.Packets.{fieldOctets, octetsIn, checksumOf, payloadOf, ipHeader, tcpHeader, pseudoHeader, packetOf}
+use Rattle.demands.specs.Packets.{fieldOctets, octetsIn, checksumOf, payloadOf, ipHeader, tcpHeader, ipSum, segmentSum, packetOf}
 use Rattle.demands.specs.Example.{ExampleAnswers, ExamplePackets}
 
 pub example : ExampleAnswers
-unfolding rows6to8 ipv4Header row10 rows9to10 onesPlus onesSum tabulate number digits overwrite bigEndian octetsOf endBytes marksBytes flowBytes numbersBytes entryBytes connectionAt entryAt placeAt zerosAt allFrom headerClock soundHeader freeAt soundAt soundTable firstFrom fromOpener fromAnswerer liveMatch vacant senderOf entryWith onEntry openingEntry unmatched onSegment sameFlow legalLength placesFor outcomeOf sameSyn reply verdictUnanswered verdictByRanges verdictOn opened repeated answered carried passed sent granted endsAfter soundFins soundEnd soundUnanswered soundConnection lifeOf withFin finsAfter openStage stageAfter sequenceMet ackMet further wrap ringPlus ringMinus nearest if_then_else_
+unfolding rows6to8 ipv4Header row10 tcpRows tcpSum onesPlus onesSum tabulate number digits overwrite bigEndian octetsOf endBytes marksBytes flowBytes numbersBytes entryBytes connectionAt entryAt placeAt zerosAt allFrom headerClock soundHeader freeAt soundAt soundTable firstFrom fromOpener fromAnswerer liveMatch vacant senderOf entryWith onEntry openingEntry unmatched onSegment sameFlow legalLength placesFor outcomeOf sameSyn reply verdictUnanswered verdictByRanges verdictOn opened repeated answered carried passed sent granted endsAfter soundFins soundEnd soundUnanswered soundConnection lifeOf withFin finsAfter openStage stageAfter sequenceMet ackMet further wrap ringPlus ringMinus nearest if_then_else_
 example = (refl, refl, refl)
 
 pub example-packets : ExamplePackets
-unfolding number digits octetsOf onesPlus onesSum fieldOctets octetsIn checksumOf payloadOf ipHeader tcpHeader pseudoHeader packetOf
+unfolding number digits octetsOf onesPlus onesSum fieldOctets octetsIn checksumOf payloadOf ipHeader tcpHeader ipSum segmentSum packetOf
 example-packets = (refl, refl, refl)

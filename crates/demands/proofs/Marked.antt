@@ -14,7 +14,8 @@ use Rattle.octets.specs.Digits.{number, digits}
 use Rattle.octets.specs.BigEndian.{bigEndian, octetsOf}
 use Rattle.address.specs.declared.Version.the-variants.{V4}
 use Rattle.checksum.specs.Sum.{onesPlus, onesSum}
-use Rattle.packet.specs.Read.{readIPv4, rows6to8, ipv4Header, row10, rows9to10}
+use Rattle.packet.specs.TcpSum.{tcpSum}
+use Rattle.packet.specs.Read.{readIPv4, rows6to8, ipv4Header, row10, tcpRows}
 use Rattle.connection.specs.Sound.{soundFins, soundEnd, soundUnanswered, soundConnection}
 use Rattle.rows.specs.Rows as rows
 use Rattle.rows.specs.Rows.{Ask, View, Passed, filter, answerOf, placeBy}
@@ -29,7 +30,7 @@ use Rattle.honest.specs.Machine.{asks}
 use Rattle.honest.specs.Marked.{afterAsk, empty, packet1, packet2, afterSyn, stateK, entry11, state11, Name, example, C, Case, markedSet, isLeft, holds, allHold}
 use Rattle.honest.proofs.Marked.{marked}
 use Rattle.demands.specs.Bytes.{SoundBytes, readingOf}
-use Rattle.demands.specs.Packets.{fieldOctets, octetsIn, checksumOf, payloadOf, ipHeader, tcpHeader, pseudoHeader, packetOf, bytesCall}
+use Rattle.demands.specs.Packets.{fieldOctets, octetsIn, checksumOf, payloadOf, ipHeader, tcpHeader, ipSum, segmentSum, packetOf, bytesCall}
 use Rattle.demands.specs.Marked.{saidTo, emptyBytes, afterSynBytes, stateKBytes, state11Bytes, bytesBefore, OnBytes, AllOnBytes}
 use Rattle.demands.proofs.View.{view-after}
 use Rattle.demands.proofs.SoundAfter.{sound-after}
@@ -82,7 +83,7 @@ IsRead l = map (λ (c : Case). readingOf readIPv4 (bytesCall (c .call))) l ≡ m
 
 -- by computation, C11's 65,535 bytes among them
 all-read : Read packet1 × Read packet2 × IsRead markedSet
-unfolding if_then_else_ wrap number digits bigEndian octetsOf onesPlus onesSum rows6to8 ipv4Header row10 rows9to10 readingOf fieldOctets octetsIn checksumOf payloadOf ipHeader tcpHeader pseudoHeader packetOf
+unfolding if_then_else_ wrap number digits bigEndian octetsOf onesPlus onesSum rows6to8 ipv4Header row10 tcpRows tcpSum readingOf fieldOctets octetsIn checksumOf payloadOf ipHeader tcpHeader ipSum segmentSum packetOf
 all-read = (refl, refl, refl)
 
 -- The tables

@@ -1,7 +1,7 @@
 -- What is asked of a reader is needed, by one call on a fresh table of one place.
 use Prim.Native.Nat.{ℕ, _^_, _<_}
 use mathlib.Core.Path.{_≡_, refl, sym, ap, _∙_}
-use mathlib.Core.Logic.{⊎-elim}
+use mathlib.Core.Logic.{inl, ⊎-elim}
 use mathlib.Core.Bool.{false}
 use mathlib.Core.List.{List, [], _∷_}
 use native.Mathlib.Omega.{arith}
@@ -74,6 +74,6 @@ reader-needed = (
       absurd (omega (arith, sym (left-is .1) ∙ ap firstAddress same ∙ whole))),
   (λ d.
       let five = refusal-is .0 in
-      let broken = d .demand1 0 0 (freshBytes V4 1) [] .broken-place (omega (arith, five), omega (arith, five)) in
+      let broken = d .demand1 0 0 (freshBytes V4 1) [] .broken-place (inl (omega (arith, five), omega (arith, five))) in
       no-byte-at-1 (broken .cause) (refusal .place) (refusal-is .1) (broken .points)),
 )

@@ -13,16 +13,16 @@ use Rattle.segment.specs.Readable.{Readable}
 use Rattle.packet.specs.Reader.{ReaderOf}
 use Rattle.packet.specs.declared.PacketRead.{PacketRead}
 use Rattle.packet.specs.declared.PacketRead.the-variants.{Refused, Tcp}
-use Rattle.packet.proofs.Causes.{cause-answer}
+use Rattle.packet.proofs.Causes.{packet-answer-bounds, cause-answer}
 use Rattle.rows.specs.Rows.{Ask, View, Blocked, nowhere, filter}
 use Rattle.rows.specs.Connections.{connections}
-use Rattle.filter.specs.Call.{Outcome, tableOf, rows5to10, askOf, outcomeOf}
+use Rattle.filter.specs.Call.{Outcome, tableOf, packetRows, askOf, outcomeOf}
 use Rattle.honest.specs.Machine.{Reading, refused, asks, apart}
 use Rattle.demands.specs.Bytes.{BytesCall, SoundBytes, readingOf, called}
 
--- rows 5 to 10 of a call, or what it asks
+-- the packet reader's rows of a call, or what it asks
 abbrev asked : BytesCall → PacketRead → Reading Ask
-asked q r = rows5to10 refused r (λ k g. asks (askOf (q .side) (q .clock) k g))
+asked q r = packetRows refused r (λ k g. asks (askOf (q .side) (q .clock) k g))
 
 -- on a sound table rows 3 and 4 say nothing
 readingOf≡rows : (read : List ℕ → PacketRead) (q : BytesCall) → readingOf read q ≡
@@ -42,7 +42,7 @@ onReading w apart = Blocked 0 nowhere
 module _ (v : Version) (read : List ℕ → PacketRead) (q : BytesCall) (t : List ℕ) (s : SoundBytes v t) where
   by-packet :
       (r : PacketRead) →
-      rows5to10 Blocked r (λ k g. filter connections (tableOf v t) (askOf (q .side) (q .clock) k g))
+      packetRows Blocked r (λ k g. filter connections (tableOf v t) (askOf (q .side) (q .clock) k g))
       ≡ onReading (tableOf v t) (asked q r)
   by-packet (Refused cause offset) = refl
   by-packet (Tcp k g) = refl
@@ -77,7 +77,7 @@ Holds v apart = ⊥
 
 module _ (v : Version) (read : List ℕ → PacketRead) (reader : ReaderOf v read) (q : BytesCall) where
   packet-holds : q .side ≤ 1 → q .clock < 2 ^ 48 → (r : PacketRead) → read (q .packet) ≡ r → Holds v (asked q r)
-  packet-holds side clock (Refused cause offset) is = omega (arith, cause-answer cause .0)
+  packet-holds side clock (Refused cause offset) is = omega (arith, packet-answer-bounds (cause-answer cause) .0)
   packet-holds side clock (Tcp k g) is = record {
     side = side;
     clock = clock;

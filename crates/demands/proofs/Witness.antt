@@ -10,7 +10,8 @@ use Rattle.octets.specs.BigEndian.{bigEndian, octetsOf}
 use Rattle.octets.specs.Overwrite.{overwrite}
 use Rattle.address.specs.declared.Version.the-variants.{V4}
 use Rattle.checksum.specs.Sum.{onesPlus, onesSum}
-use Rattle.packet.specs.Read.{readIPv4, rows6to8, ipv4Header, row10, rows9to10}
+use Rattle.packet.specs.TcpSum.{tcpSum}
+use Rattle.packet.specs.Read.{readIPv4, rows6to8, ipv4Header, row10, tcpRows}
 use Rattle.rows.specs.Connections.{connections}
 use Rattle.honest.specs.Machine.{refused, Machine}
 use Rattle.honest.specs.Rules.{Event, Pair}
@@ -23,8 +24,8 @@ use Rattle.honest.proofs.Transfer.{made-carries, refused-carries, legal-carried
 use Rattle.honest.proofs.Witness.{witness-legal, witness-shows}
 use Rattle.demands.specs.Bytes.{BytesCall, SoundBytes, readingOf, ipv4Machine}
 use Rattle.demands.specs.Demands.{freshBytes}
-use Rattle.demands.specs.Packets.{fieldOctets, octetsIn, checksumOf, payloadOf, ipHeader, tcpHeader, pseudoHeader, packetOf, bytesCall}
-use Rattle.demands.specs.Witness.{madeWitness, wrongSum, fragment, bytesWitness}
+use Rattle.demands.specs.Packets.{fieldOctets, octetsIn, checksumOf, payloadOf, ipHeader, tcpHeader, ipSum, segmentSum, packetOf, bytesCall}
+use Rattle.demands.specs.Witness.{madeWitness, wrongSum, fragment, wrongWindow, bytesWitness}
 use Rattle.demands.proofs.Fresh.{fresh-bytes-sound, fresh-bytes-view}
 use Rattle.demands.proofs.Keeps.{ipv4-keeps}
 use Rattle.demands.proofs.Demands.{demands-of-ipv4}
@@ -54,18 +55,21 @@ all-read :
     (readings ipv4Machine madeWitness ≡ readings viewed witness)
     × (readingOf readIPv4 wrongSum ≡ refused 6 10)
     × (readingOf readIPv4 fragment ≡ refused 7 6)
-unfolding if_then_else_ wrap number digits bigEndian octetsOf overwrite onesPlus onesSum rows6to8 ipv4Header row10 rows9to10 readingOf fieldOctets octetsIn checksumOf payloadOf ipHeader tcpHeader pseudoHeader packetOf
-all-read = (refl, refl, refl)
+    × (readingOf readIPv4 wrongWindow ≡ refused 16 36)
+unfolding if_then_else_ wrap number digits bigEndian octetsOf overwrite onesPlus onesSum rows6to8 ipv4Header row10 tcpRows tcpSum readingOf fieldOctets octetsIn checksumOf payloadOf ipHeader tcpHeader ipSum segmentSum packetOf
+all-read = (refl, refl, refl, refl)
 
--- the two packets that are malformed
-pub bytes-witness-refuses : (readingOf readIPv4 wrongSum ≡ refused 6 10) × (readingOf readIPv4 fragment ≡ refused 7 6)
-bytes-witness-refuses = (all-read .1, all-read .2)
+-- the three packets that are refused
+pub bytes-witness-refuses :
+    (readingOf readIPv4 wrongSum ≡ refused 6 10) × (readingOf readIPv4 fragment ≡ refused 7 6) × (readingOf readIPv4 wrongWindow ≡ refused 16 36)
+bytes-witness-refuses = (all-read .1, all-read .2, all-read .3)
 
 witness-carried : Carries ipv4Machine bytesWitness witness
 witness-carried =
     refused-carries ipv4Machine 40 fragment 7 6 (bytes-witness-refuses .1)
+    (refused-carries ipv4Machine 47 wrongWindow 16 36 (bytes-witness-refuses .2)
     (refused-carries ipv4Machine 48 wrongSum 6 10 (bytes-witness-refuses .0)
-    (made-carries ipv4Machine (λ b. bytesCall (b .0)) witness (all-read .0)))
+    (made-carries ipv4Machine (λ b. bytesCall (b .0)) witness (all-read .0))))
 
 pub bytes-witness-legal : Legal ipv4Machine (freshBytes V4 64) pair bytesWitness
 bytes-witness-legal = legal-on-bytes 64 (omega arith) (omega arith) witness-carried pair witness-legal

@@ -12,7 +12,7 @@ use Rattle.packet.specs.declared.PacketRead.{PacketRead}
 use Rattle.rows.specs.Rows.{Ask}
 use Rattle.table.specs.Table.{soundTable}
 use Rattle.filter.specs.Length.{legalLength}
-use Rattle.filter.specs.Call.{Outcome, placesIn, tableOf, rows1to4, rows5to10, askOf, outcomeOf, replyOf, tableAfter}
+use Rattle.filter.specs.Call.{Outcome, placesIn, tableOf, rows1to4, packetRows, askOf, outcomeOf, replyOf, tableAfter}
 use Rattle.honest.specs.Machine.{Reading, refused, asks, Machine}
 
 pub record BytesCall : Type 0 where
@@ -27,11 +27,11 @@ pub record SoundBytes (v : Version) (t : List ℕ) : Type 0 where
   pub legal : legalLength v (length t) ≡ true
   pub sound : soundTable v t (placesIn v t) ≡ true
 
--- what a call asks: the call's own list on such a table, where rows 3 and 4 say nothing; what rows 1, 2 and 5 to 10 don't refuse is asked
+-- what a call asks: the call's own list on such a table, where rows 3 and 4 say nothing; what rows 1, 2, 5 to 10 and 16 don't refuse is asked
 unfoldable pub readingOf : (List ℕ → PacketRead) → BytesCall → Reading Ask
 readingOf read q =
     rows1to4 refused (q .side) (q .clock) true true
-    (rows5to10 refused (read (q .packet))
+    (packetRows refused (read (q .packet))
     (λ k g. asks (askOf (q .side) (q .clock) k g)))
 
 module _ (v : Version) (read : List ℕ → PacketRead) where

@@ -31,11 +31,11 @@ module _ (v : Version) where
     pub passed-place : replyOf o .answer ≡ 0 → replyOf o .place < placesIn v t
     pub passed-length : replyOf o .answer ≡ 0 → length (tableAfter v t o) ≡ length t
     pub passed-elsewhere : replyOf o .answer ≡ 0 → (i : ℕ) → Elsewhere (replyOf o .place) i → getD (tableAfter v t o) i 0 ≡ getD t i 0
-    -- every other answer is one of document 01's and changes no byte
-    pub blocked-answer : (replyOf o .answer ≡ 0 → ⊥) → replyOf o .answer ≤ 15
+    -- every other answer is one of the documents' and changes no byte
+    pub blocked-answer : (replyOf o .answer ≡ 0 → ⊥) → replyOf o .answer ≤ 16
     pub blocked-keeps : (replyOf o .answer ≡ 0 → ⊥) → tableAfter v t o ≡ t
-    -- 5 to 10 give the byte offset at which the packet broke (document 02, item 2): below the packet's length or, where bytes are missing, at most
-    -- it; every other refusal gives place 65,535
+    -- 5 to 10 and 16 give the byte offset at which the packet broke (document 02, items 2 and 5): below the packet's length or, where bytes are
+    -- missing, at most it; every other refusal gives place 65,535
     pub broken-place : PacketAnswer (replyOf o .answer) → BrokenAt read packet (replyOf o .answer) (replyOf o .place)
     pub blocked-place : (replyOf o .answer ≡ 0 → ⊥) → (PacketAnswer (replyOf o .answer) → ⊥) → replyOf o .place ≡ nowhere
 

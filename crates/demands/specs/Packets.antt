@@ -5,7 +5,9 @@ use lib.ListN.{replicate}
 use Rattle.octets.specs.BigEndian.{octetsOf}
 use Rattle.octets.proofs.Octets.{Bytes, bytes-[], bytes-++, bytes-octetsOf, bytes-replicate}
 use Rattle.segment.specs.Flags.{fin, syn}
+use Rattle.address.specs.declared.Version.the-variants.{V4}
 use Rattle.checksum.specs.Sum.{onesSum}
+use Rattle.packet.specs.TcpSum.{pseudoHeader}
 use Rattle.rows.specs.Rows.{Ask}
 use Rattle.demands.specs.Bytes.{BytesCall}
 
@@ -25,8 +27,8 @@ octetsIn [] = []
 octetsIn (f ∷ l) = fieldOctets f ++ octetsIn l
 
 -- the number with which the ones' complement sum is ffff
-unfoldable pub checksumOf : List Field → ℕ
-checksumOf l = 0xffff - onesSum (octetsIn l)
+unfoldable pub checksumOf : List ℕ → ℕ
+checksumOf l = 0xffff - onesSum l
 
 module _ (a : Ask) where
   -- SYN and FIN count one each among the segment's octets
@@ -53,13 +55,15 @@ module _ (a : Ask) where
       ∷ u16 sum ∷ u16 0
       ∷ []
 
-  -- what TCP's checksum covers besides its header; a payload of zeros adds nothing
-  unfoldable pub pseudoHeader : List Field
-  pseudoHeader = u32 (a .key .from .address .low) ∷ u32 (a .key .to .address .low) ∷ u8 0 ∷ u8 6 ∷ u16 (20 + payloadOf) ∷ []
+  -- each checksum is taken over its header with a zero in its place, TCP's with the pseudo-header before it; a payload of zeros adds nothing
+  unfoldable pub ipSum : ℕ
+  ipSum = checksumOf (octetsIn (ipHeader 0))
 
-  -- each checksum is taken over its header with a zero in its place
+  unfoldable pub segmentSum : ℕ
+  segmentSum = checksumOf (pseudoHeader V4 (a .key) (20 + payloadOf) ++ octetsIn (tcpHeader 0))
+
   unfoldable pub packetOf : List ℕ
-  packetOf = octetsIn (ipHeader (checksumOf (ipHeader 0)) ++ tcpHeader (checksumOf (pseudoHeader ++ tcpHeader 0))) ++ replicate payloadOf 0
+  packetOf = octetsIn (ipHeader ipSum ++ tcpHeader segmentSum) ++ replicate payloadOf 0
 
 -- It is made of octets
 

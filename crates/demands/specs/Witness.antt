@@ -1,4 +1,4 @@
--- The legal list of `honest` on bytes: each call lends the packet that brings what it asks, and two more lend packets that are refused.
+-- The legal list of `honest` on bytes: each call lends the packet that brings what it asks, and three more lend packets that are refused.
 use Prim.Native.Nat.{ℕ}
 use mathlib.Core.List.{List, map}
 use Rattle.octets.specs.BigEndian.{octetsOf}
@@ -6,7 +6,7 @@ use Rattle.octets.specs.Overwrite.{overwrite}
 use Rattle.octets.proofs.Octets.{octets-octetsOf, octets-overwrite}
 use Rattle.honest.specs.Rules.{Event}
 use Rattle.honest.specs.Carries.{withCall, withOther}
-use Rattle.honest.specs.Witness.{o, brings, witness}
+use Rattle.honest.specs.Witness.{o, a, brings, witness}
 use Rattle.demands.specs.Bytes.{BytesCall}
 use Rattle.demands.specs.Packets.{bytesCall}
 
@@ -30,6 +30,11 @@ wrongSum = spoilt 8 1 63 (bytesCall (brings 180900 (o 4) .0))
 abbrev pub fragment : BytesCall
 fragment = spoilt 6 3 0x200020 (bytesCall (brings 181900 (o 5) .0))
 
--- each right before the arrival of the packet that it was made from: the fragment 40th from the end, the wrong sum 48th
+-- the answerer's sending 2 with a window of 65,535 for 2,510: TCP's sum is wrong. Passed, it would let the opener send up to an edge that the
+-- answerer has not granted
+abbrev pub wrongWindow : BytesCall
+wrongWindow = spoilt 34 2 0xffff (bytesCall (brings 181050 (a 2) .0))
+
+-- each right before the arrival of the packet that it was made from: the fragment 40th from the end, the wrong window 47th, the wrong sum 48th
 abbrev pub bytesWitness : List (Event BytesCall)
-bytesWitness = withOther 40 fragment (withOther 48 wrongSum madeWitness)
+bytesWitness = withOther 40 fragment (withOther 47 wrongWindow (withOther 48 wrongSum madeWitness))

@@ -19,7 +19,7 @@ use Rattle.entry.proofs.Places.{next-place}
 use Rattle.table.specs.Table.{headerClock, soundHeader, soundTable}
 use Rattle.table.proofs.Words.{header-clock-under}
 use Rattle.filter.specs.Length.{legalLength, placesFor, LegalWherePlaces}
-use Rattle.filter.specs.Call.{Outcome, placesIn, tableOf, rows1to4, rows5to10, outcomeOf}
+use Rattle.filter.specs.Call.{Outcome, placesIn, tableOf, rows1to4, packetRows, outcomeOf}
 use Rattle.filter.specs.Decision.{tableRefusal}
 
 pub legal-length-bounds : (v : Version) (n : ℕ) → legalLength v n ≡ true → (placeAt v 1 ≤ n) × (n ≤ placeAt v 512)
@@ -123,9 +123,9 @@ pub record NotRefused (v : Version) (side clock : ℕ) (t : List ℕ) : Type 0 w
   pub sound : soundTable v t (placesIn v t) ≡ true
 
 module _ (v : Version) (side clock : ℕ) (t : List ℕ) where
-  -- rows 5 to 15 and 0
+  -- rows 5 to 16 and 0
   abbrev after : PacketRead → Outcome
-  after read = rows5to10 Blocked read (onSegment connections (tableOf v t) (max clock (headerClock t)) side)
+  after read = packetRows Blocked read (onSegment connections (tableOf v t) (max clock (headerClock t)) side)
 
   by-refusal :
       (read : PacketRead) →
@@ -143,7 +143,7 @@ module _ (v : Version) (side clock : ℕ) (t : List ℕ) where
     pub past-row-4 :
         (read : PacketRead) →
         outcomeOf v side clock t read
-        ≡ rows5to10 Blocked read (onSegment connections (tableOf v t) (max clock (headerClock t)) side)
+        ≡ packetRows Blocked read (onSegment connections (tableOf v t) (max clock (headerClock t)) side)
     past-row-4 read = by-refusal read ∙ if-= _ _ none
 
     pub not-refused : NotRefused v side clock t

@@ -52,10 +52,10 @@ module _ {A : Type 0} (refuse : (answer place : ℕ) → A) where
       else if not sound then refuse 4 nowhere
       else next
 
-  -- 5 to 10, as the version's reader has them; the place is the offset of the cause (document 02, item 2)
-  abbrev pub rows5to10 : PacketRead → (Flow → Segment → A) → A
-  rows5to10 (Refused cause offset) next = refuse (causeNumber cause) offset
-  rows5to10 (Tcp k g) next = next k g
+  -- 5 to 10, with 16 after 9, as the version's reader has them; the place is the offset of the cause (document 02, items 2 and 5)
+  abbrev pub packetRows : PacketRead → (Flow → Segment → A) → A
+  packetRows (Refused cause offset) next = refuse (causeNumber cause) offset
+  packetRows (Tcp k g) next = next k g
 
 -- a packet's flow and segment, with its side and clock, as rows 11 to 15 and 0 are asked
 abbrev pub askOf : ℕ → ℕ → Flow → Segment → Ask
@@ -65,7 +65,7 @@ askOf side clock k g = record { side = side; clock = clock; key = k; segment = g
 unfoldable pub outcomeOf : Version → ℕ → ℕ → List ℕ → PacketRead → Outcome
 outcomeOf v side clock t read =
     rows1to4 Blocked side clock (legalLength v (length t)) (soundTable v t (placesIn v t))
-    (rows5to10 Blocked read
+    (packetRows Blocked read
     (λ k g. rows.filter connections (tableOf v t) (askOf side clock k g)))
 
 -- the IPv4 filter

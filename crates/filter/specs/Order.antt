@@ -1,5 +1,6 @@
--- "The first line that applies wins, top to bottom": calls to which one of rows 1 to 11 applies and, but for the last, a later one too. In rows 5
--- to 10 "The first cause in document 01's order counts" (document 02, item 2): each of the 14 causes, with a later one where there is any.
+-- "The first line that applies wins, top to bottom": calls to which one of the rows down to 11 applies and, but for the last, a later one too. Of a
+-- packet "The first cause in document 01's order counts" (document 02, item 2), 16 "after 9 and before 10" (item 5): each of the 15 causes, with
+-- a later one where there is any.
 use Prim.Native.Nat.{ℕ, _-_, _^_}
 use mathlib.Core.Path.{_≡_}
 use mathlib.Core.List.{List, [], _∷_, _++_}
@@ -15,7 +16,8 @@ fresh = replicate 128 0
 abbrev unsound : List ℕ
 unsound = replicate 63 0 ++ (1 ∷ replicate 64 0)
 
--- Packets: 20 bytes of IPv4 header, the first with version and header length, from 10.0.0.from to 10.0.0.to, before the rest; 20 bytes of TCP
+-- Packets: 20 bytes of IPv4 header, the first with version and header length, from 10.0.0.from to 10.0.0.to, before the rest; 20 bytes of TCP.
+-- Each has the two bytes of its checksum
 abbrev pub ipv4 : (first length fragment protocol sum sum' from to : ℕ) → List ℕ → List ℕ
 ipv4 first length fragment protocol sum sum' from to rest =
     first ∷ 0 ∷ 0 ∷ length
@@ -25,8 +27,8 @@ ipv4 first length fragment protocol sum sum' from to rest =
     ∷ 10 ∷ 0 ∷ 0 ∷ to
     ∷ rest
 
-abbrev tcp : (dataOffsetByte flags : ℕ) → List ℕ
-tcp dataOffsetByte flags = replicate 12 0 ++ (dataOffsetByte ∷ flags ∷ replicate 6 0)
+abbrev tcp : (dataOffsetByte flags sum sum' : ℕ) → List ℕ
+tcp dataOffsetByte flags sum sum' = replicate 12 0 ++ (dataOffsetByte ∷ flags ∷ 0 ∷ 0 ∷ sum ∷ sum' ∷ 0 ∷ 0 ∷ [])
 
 abbrev filtered : (side clock : ℕ) (table packet : List ℕ) → Reply
 filtered side clock table packet = replyOf (ipv4Outcome side clock table packet)
@@ -44,27 +46,30 @@ pub record FirstThatApplies : Type 0 where
   pub row-4 : filtered 1 0 unsound [] ≡ gives 4 nowhere
   -- no byte, so no version either: the offset is right behind the bytes given; version 6 and a header of 4 words
   pub row-5-short : filtered 1 0 fresh [] ≡ gives 5 0
-  pub row-5-version : filtered 1 0 fresh (ipv4 0x64 40 0 6 0 0 1 2 (tcp 80 16)) ≡ gives 5 0
+  pub row-5-version : filtered 1 0 fresh (ipv4 0x64 40 0 6 0 0 1 2 (tcp 80 16 0 0)) ≡ gives 5 0
   -- a header of 4 words and total length 15; total length 41, below a header of 15 words and above the 40 bytes given; the latter and a wrong sum
-  pub row-5-header : filtered 1 0 fresh (ipv4 0x44 15 0 6 0 0 1 2 (tcp 80 16)) ≡ gives 5 0
-  pub row-5-below : filtered 1 0 fresh (ipv4 0x4f 41 0 6 0 0 1 2 (tcp 80 16)) ≡ gives 5 2
-  pub row-5-above : filtered 1 0 fresh (ipv4 0x45 41 0 6 0 0 1 2 (tcp 80 16)) ≡ gives 5 2
+  pub row-5-header : filtered 1 0 fresh (ipv4 0x44 15 0 6 0 0 1 2 (tcp 80 16 0 0)) ≡ gives 5 0
+  pub row-5-below : filtered 1 0 fresh (ipv4 0x4f 41 0 6 0 0 1 2 (tcp 80 16 0 0)) ≡ gives 5 2
+  pub row-5-above : filtered 1 0 fresh (ipv4 0x45 41 0 6 0 0 1 2 (tcp 80 16 0 0)) ≡ gives 5 2
   -- a wrong sum of a fragment; a fragment of another protocol; another protocol with nothing behind the header
-  pub row-6 : filtered 1 0 fresh (ipv4 0x45 40 32 6 0 0 1 2 (tcp 80 16)) ≡ gives 6 10
-  pub row-7 : filtered 1 0 fresh (ipv4 0x45 40 32 17 0x46 0xc3 1 2 (tcp 80 16)) ≡ gives 7 6
+  pub row-6 : filtered 1 0 fresh (ipv4 0x45 40 32 6 0 0 1 2 (tcp 80 16 0 0)) ≡ gives 6 10
+  pub row-7 : filtered 1 0 fresh (ipv4 0x45 40 32 17 0x46 0xc3 1 2 (tcp 80 16 0 0)) ≡ gives 7 6
   pub row-8 : filtered 1 0 fresh (ipv4 0x45 20 0 17 0x66 0xd7 1 2 []) ≡ gives 8 9
   -- nothing behind the header, and so a data offset of 0: right behind the 20 bytes given; a data offset of 4 words, and one of 6 where 5 follow,
-  -- both without SYN, ACK and RST
+  -- both with a wrong sum and without SYN, ACK and RST
   pub row-9-short : filtered 1 0 fresh (ipv4 0x45 20 0 6 0x66 0xe2 1 2 []) ≡ gives 9 20
-  pub row-9-below : filtered 1 0 fresh (ipv4 0x45 40 0 6 0x66 0xce 1 2 (tcp 64 0)) ≡ gives 9 32
-  pub row-9-past : filtered 1 0 fresh (ipv4 0x45 40 0 6 0x66 0xce 1 2 (tcp 96 0)) ≡ gives 9 32
+  pub row-9-below : filtered 1 0 fresh (ipv4 0x45 40 0 6 0x66 0xce 1 2 (tcp 64 0 0 0)) ≡ gives 9 32
+  pub row-9-past : filtered 1 0 fresh (ipv4 0x45 40 0 6 0x66 0xce 1 2 (tcp 96 0 0 0)) ≡ gives 9 32
+  -- a wrong sum, without SYN, ACK and RST
+  pub row-16 : filtered 1 0 fresh (ipv4 0x45 40 0 6 0x66 0xce 1 2 (tcp 80 0 0x9b 0xe3)) ≡ gives 16 36
   -- SYN with FIN and payload; without SYN, ACK and RST, of no connection; SYN with payload, from side 1
-  pub row-10-syn-fin : filtered 1 0 fresh (ipv4 0x45 41 0 6 0x66 0xcd 1 2 (tcp 80 3 ++ (0 ∷ []))) ≡ gives 10 33
-  pub row-10-none : filtered 1 0 fresh (ipv4 0x45 40 0 6 0x66 0xce 1 2 (tcp 80 0)) ≡ gives 10 33
-  pub row-10-payload : filtered 1 0 fresh (ipv4 0x45 41 0 6 0x66 0xcd 1 2 (tcp 80 2 ++ (0 ∷ []))) ≡ gives 10 33
-  -- behind a header of 6 words: nothing; a data offset of 4 words; none of SYN, ACK and RST
+  pub row-10-syn-fin : filtered 1 0 fresh (ipv4 0x45 41 0 6 0x66 0xcd 1 2 (tcp 80 3 0x9b 0xde ++ (0 ∷ []))) ≡ gives 10 33
+  pub row-10-none : filtered 1 0 fresh (ipv4 0x45 40 0 6 0x66 0xce 1 2 (tcp 80 0 0x9b 0xe2)) ≡ gives 10 33
+  pub row-10-payload : filtered 1 0 fresh (ipv4 0x45 41 0 6 0x66 0xcd 1 2 (tcp 80 2 0x9b 0xdf ++ (0 ∷ []))) ≡ gives 10 33
+  -- behind a header of 6 words: nothing; a data offset of 4 words; a wrong sum; none of SYN, ACK and RST
   pub options-9-short : filtered 1 0 fresh (ipv4 0x46 24 0 6 0x65 0xde 1 2 (replicate 4 0)) ≡ gives 9 24
-  pub options-9-below : filtered 1 0 fresh (ipv4 0x46 44 0 6 0x65 0xca 1 2 (replicate 4 0 ++ tcp 64 0)) ≡ gives 9 36
-  pub options-10 : filtered 1 0 fresh (ipv4 0x46 44 0 6 0x65 0xca 1 2 (replicate 4 0 ++ tcp 80 0)) ≡ gives 10 37
+  pub options-9-below : filtered 1 0 fresh (ipv4 0x46 44 0 6 0x65 0xca 1 2 (replicate 4 0 ++ tcp 64 0 0 0)) ≡ gives 9 36
+  pub options-16 : filtered 1 0 fresh (ipv4 0x46 44 0 6 0x65 0xca 1 2 (replicate 4 0 ++ tcp 80 0 0x9b 0xe3)) ≡ gives 16 40
+  pub options-10 : filtered 1 0 fresh (ipv4 0x46 44 0 6 0x65 0xca 1 2 (replicate 4 0 ++ tcp 80 0 0x9b 0xe2)) ≡ gives 10 37
   -- of no connection
-  pub row-11 : filtered 1 0 fresh (ipv4 0x45 40 0 6 0x66 0xce 1 2 (tcp 80 16)) ≡ gives 11 nowhere
+  pub row-11 : filtered 1 0 fresh (ipv4 0x45 40 0 6 0x66 0xce 1 2 (tcp 80 16 0x9b 0xd2)) ≡ gives 11 nowhere

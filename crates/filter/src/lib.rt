@@ -1,4 +1,4 @@
-// One call of the filter: rows 1 to 15 and 0 of document 01, on a table of either IP version; and the filter of IPv4.
+// One call of the filter: the rows of document 01, with 16 of document 02, item 5, on a table of either IP version; and the filter of IPv4.
 ghost use mathlib.Core.Path.{_≡_};
 ghost use Prim.Native.Nat.{_^_, _≤_, _<_, max};
 ghost use lib.ListN.{length};
@@ -8,7 +8,7 @@ ghost use Rattle.rows.specs.Rows.{Blocked, Passed, nowhere, freeEntry, entryWit
 ghost use Rattle.rows.specs.Connections.{connections};
 ghost use Rattle.table.specs.Table.{headerClock, viewOf};
 ghost use Rattle.filter.specs.Length.{legalLength, placesFor};
-ghost use Rattle.filter.specs.Call.{rows5to10, outcomeOf, ipv4Outcome, replyOf, tableAfter};
+ghost use Rattle.filter.specs.Call.{packetRows, outcomeOf, ipv4Outcome, replyOf, tableAfter};
 ghost use Rattle.filter.specs.Decision.{tableRefusal, decisionOf, tableLeftBy, PassInside};
 use address::Address;
 use address::Endpoint;
@@ -90,7 +90,7 @@ fn blocked_at(answer: u32, place: usize) -> Decision
     }
 }
 
-// Every answer but 5 to 10 and a pass gives place 65,535.
+// Every answer but the packet reader's and a pass gives place 65,535.
 fn blocked(answer: u32) -> Decision
     ensures { λ r. ⌜ r ≡ decisionOf (Blocked answer nowhere) ⌝ }
 {
@@ -260,7 +260,7 @@ fn clock_used(table: &[u8], given: u64) -> u64
     given
 }
 
-// Rows 5 to 15 and 0, by what was read of the packet, on a sound table by the clock used.
+// Rows 5 to 16 and 0, by what was read of the packet, on a sound table by the clock used.
 fn on_read(
     version: Version,
     table: &[u8],
@@ -270,7 +270,7 @@ fn on_read(
     read: PacketRead,
 ) -> Decision
     requires { ⌜ (placeAt version places ≤ length (now table)) × (clock < 2 ^ 48) ⌝ }
-    ensures { λ r. ⌜ r ≡ decisionOf (rows5to10 Blocked read (onSegment connections (viewOf version (now (table .entry)) places) clock side)) ⌝ }
+    ensures { λ r. ⌜ r ≡ decisionOf (packetRows Blocked read (onSegment connections (viewOf version (now (table .entry)) places) clock side)) ⌝ }
 {
     match read {
         PacketRead::Refused(cause, offset) => blocked_at(cause.number(), offset),

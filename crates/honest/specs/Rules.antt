@@ -149,8 +149,8 @@ module _ (P : Pair) {Call : Type 0} (p : LineSegment) (L : List (Event Call)) wh
     answerers-syn-ack : AnswerersSynAck → Allowed
     later : LaterSegment → Allowed
 
-  -- "Each packet is well formed by answers 5 to 10.": of the segment, a 16-bit window and no payload with SYN; the rest is its packet's,
-  -- which has to be read as this segment (`Arrives`)
+  -- "Each packet is well formed by answers 5 to 10", and "Honest ends send right checksums" (document 02, item 5): of the segment, a 16-bit
+  -- window and no payload with SYN; the rest is its packet's, which has to be read as this segment (`Arrives`)
   pub record Honest : Type 0 where
     pub allowed : Allowed
     pub formed : Formed p

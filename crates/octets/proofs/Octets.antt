@@ -40,12 +40,12 @@ pub bytes-replicate : (n : ℕ) → Bytes (replicate n 0)
 bytes-replicate zero = bytes-[]
 bytes-replicate (suc n) = bytes-∷ (omega arith) (bytes-replicate n)
 
-bytes-take : (n : ℕ) (l : List ℕ) → Octets l → Bytes (take n l)
+pub bytes-take : (n : ℕ) (l : List ℕ) → Octets l → Bytes (take n l)
 bytes-take zero l all = bytes-[]
 bytes-take (suc n) [] all = bytes-[]
 bytes-take (suc n) (x ∷ l) all = bytes-∷ (all 0) (bytes-take n l (λ i. all (suc i)))
 
-bytes-drop : (n : ℕ) (l : List ℕ) → Octets l → Bytes (drop n l)
+pub bytes-drop : (n : ℕ) (l : List ℕ) → Octets l → Bytes (drop n l)
 bytes-drop n l all = record { small = λ i. rw (getD-drop n l i 0) (all (n + i)) }
 
 pub octets-octetsOf : (n v : ℕ) → Octets (octetsOf n v)

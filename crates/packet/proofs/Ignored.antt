@@ -3,8 +3,8 @@ use Prim.Native.Nat.{ℕ, _+_, _-_, _≤_, _<_}
 use mathlib.Core.Path.{_≡_, refl, sym, ap, _∙_}
 use mathlib.Core.List.{List, _++_}
 use native.Mathlib.Omega.{arith}
-use lib.ListN.{length, getD, length-append, List·getD-append}
-use lib.Seq.{take-append-le}
+use lib.ListN.{length, getD, take, drop, length-append, length-drop, List·getD-append}
+use lib.Seq.{take-append-le, drop-append-le}
 use borrow.Author.Tests.{le-ltb, ltb-false}
 use Rattle.choice.specs.Choice.{_<ᵇ_}
 use Rattle.choice.proofs.Choice.{if-else-past}
@@ -15,7 +15,8 @@ use Rattle.address.specs.declared.Version.{Version}
 use Rattle.address.specs.declared.Version.the-variants.{V4}
 use Rattle.address.proofs.Laws.{addressAt-agree}
 use Rattle.packet.specs.Header.{headerLength, totalLength}
-use Rattle.packet.specs.Read.{ipv4Addresses, ipv4Header, rows9to10, onHeader, rows6to8}
+use Rattle.packet.specs.TcpSum.{segmentOctets, tcpSum}
+use Rattle.packet.specs.Read.{ipv4Addresses, ipv4Header, tcpRows, onHeader, rows6to8}
 use Rattle.packet.specs.Ignored.{PastTotalIgnored}
 use Rattle.packet.specs.declared.IpRead.{IpRead}
 use Rattle.packet.specs.declared.IpRead.the-variants.{BadHeader, CarriesTcp}
@@ -28,19 +29,25 @@ module _ (p past : List ℕ) where
   bigEndian-unchanged : (n at : ℕ) → at + n ≤ length p → bigEndian n (p ++ past) at ≡ bigEndian n p at
   bigEndian-unchanged n at inside = bigEndian-agree (p ++ past) at p at n (λ i h. octet-unchanged (at + i) (omega arith))
 
+  -- the octets that TCP's checksum covers
+  segment-unchanged : (h t : ℕ) → h ≤ t → t ≤ length p → segmentOctets (p ++ past) h t ≡ segmentOctets p h t
+  segment-unchanged h t behind given =
+      ap (take (t - h)) (drop-append-le h p past (omega arith))
+      ∙ take-append-le (t - h) (drop h p) past (rw (length-drop h p) (omega arith))
+
   length-test-unchanged : (n : ℕ) → n ≤ length p → (length (p ++ past) <ᵇ n) ≡ (length p <ᵇ n)
   length-test-unchanged n enough =
       le-ltb (length (p ++ past)) n (rw (length-append p past) (omega arith)) ∙ sym (le-ltb (length p) n enough)
 
-  -- Rows 9 and 10, of every version
+  -- Rows 9, 16 and 10, of every version
 
   module _ (v : Version) (addresses : ℕ) (inside : addresses + addressSize v + addressSize v ≤ length p) where
     address-unchanged : (at : ℕ) → at + addressSize v ≤ length p → addressAt v (p ++ past) at ≡ addressAt v p at
     address-unchanged at fits = addressAt-agree v (p ++ past) at p at (λ i h. octet-unchanged (at + i) (omega arith))
 
-    rows9to10-unchanged : (h t : ℕ) → t ≤ length p → rows9to10 v addresses (p ++ past) h t ≡ rows9to10 v addresses p h t
-    unfolding rows9to10
-    rows9to10-unchanged h t given = if-else-past _ refl λ e.
+    tcpRows-unchanged : (h t : ℕ) → t ≤ length p → tcpRows v addresses (p ++ past) h t ≡ tcpRows v addresses p h t
+    unfolding tcpRows tcpSum
+    tcpRows-unchanged h t given = if-else-past _ refl λ e.
         let room : 20 ≤ t - h = ltb-false (t - h) 20 e in
         rw (
           address-unchanged addresses (omega arith),
@@ -52,6 +59,7 @@ module _ (p past : List ℕ) where
           octet-unchanged (h + 12) (omega arith),
           octet-unchanged (h + 13) (omega arith),
           bigEndian-unchanged 2 (h + 14) (omega arith),
+          segment-unchanged h t (omega arith) given,
         )
 
     -- what the IP header carries ends in the packet
@@ -59,7 +67,7 @@ module _ (p past : List ℕ) where
         (r : IpRead) → ((h t : ℕ) → r ≡ CarriesTcp h t → t ≤ length p) →
         onHeader v addresses (p ++ past) r ≡ onHeader v addresses p r
     onHeader-unchanged (BadHeader cause offset) ends = refl
-    onHeader-unchanged (CarriesTcp h t) ends = rows9to10-unchanged h t (ends h t refl)
+    onHeader-unchanged (CarriesTcp h t) ends = tcpRows-unchanged h t (ends h t refl)
 
   -- Rows 5 to 8, of IPv4
 

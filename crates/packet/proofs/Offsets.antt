@@ -9,7 +9,7 @@ use borrow.Author.Tests.{ltb-false}
 use Rattle.choice.proofs.Choice.{if-either, if-cases}
 use Rattle.address.specs.declared.Version.{Version}
 use Rattle.packet.specs.Header.{headerLength, totalLength, controlBits}
-use Rattle.packet.specs.Read.{rows6to8, ipv4Header, payload, row10, onFlags, rows9to10, onHeader}
+use Rattle.packet.specs.Read.{rows6to8, ipv4Header, payload, row10, onFlags, tcpRows, onHeader}
 use Rattle.packet.specs.Reader.{PointsInto}
 use Rattle.packet.specs.declared.Cause.{Cause}
 use Rattle.packet.specs.declared.FlagCheck.{FlagCheck}
@@ -32,7 +32,7 @@ ReadPoints p (Tcp k g) = Unit {0}
 inside : {p : List ℕ} {cause : Cause} {offset : ℕ} → offset < length p → offset < 120 → PointsInto p cause offset
 inside given below = record { given = inl given; below-120 = below }
 
--- Rows 9 and 10, of every version
+-- Rows 9, 16 and 10, of every version
 
 module _ (v : Version) (addresses : ℕ) (p : List ℕ) (h t : ℕ) (short : h ≤ 60) (behind : h ≤ t) (given : t ≤ length p) where
   flags-point :
@@ -43,21 +43,22 @@ module _ (v : Version) (addresses : ℕ) (p : List ℕ) (h t : ℕ) (short : h �
       inside (omega (arith, at)) (omega (arith, at))
   flags-point read Fine fine room points = points
 
-  rows9to10-point : ReadPoints p (rows9to10 v addresses p h t)
-  unfolding rows9to10
-  rows9to10-point =
+  tcpRows-point : ReadPoints p (tcpRows v addresses p h t)
+  unfolding tcpRows
+  tcpRows-point =
       if-cases (ReadPoints p) _ _ _ (λ _. record { given = inr (inr refl, omega arith); below-120 = omega arith }) λ e.
       let room : 20 ≤ t - h = ltb-false (t - h) 20 e in
       if-either (ReadPoints p) _ _ _ (inside (omega arith) (omega arith))
       (if-either (ReadPoints p) _ _ _ (inside (omega arith) (omega arith))
-      (flags-point _ (row10 (controlBits p h) (payload p h t)) refl room tt))
+      (if-either (ReadPoints p) _ _ _ (inside (omega arith) (omega arith))
+      (flags-point _ (row10 (controlBits p h) (payload p h t)) refl room tt)))
 
 pub header-points :
     (v : Version) (addresses : ℕ) (p : List ℕ) (r : IpRead) → HeaderPoints p r →
     (cause : Cause) (offset : ℕ) → onHeader v addresses p r ≡ Refused cause offset → PointsInto p cause offset
 header-points v addresses p (BadHeader cause' offset') points cause offset e = subst (ReadPoints p) e points
 header-points v addresses p (CarriesTcp h t) points cause offset e =
-    subst (ReadPoints p) e (rows9to10-point v addresses p h t (points .0) (points .1) (points .2))
+    subst (ReadPoints p) e (tcpRows-point v addresses p h t (points .0) (points .1) (points .2))
 
 -- Rows 5 to 8, of IPv4
 

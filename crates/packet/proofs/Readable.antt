@@ -18,7 +18,7 @@ use Rattle.segment.specs.Flags.{fin, syn, rst, ack, control}
 use Rattle.segment.specs.Readable.{Readable}
 use Rattle.segment.specs.declared.Segment.{Segment}
 use Rattle.packet.specs.Header.{controlBits, headerLength, totalLength}
-use Rattle.packet.specs.Read.{rows6to8, ipv4Header, ipv4Addresses, payload, segmentOf, row10, onFlags, rows9to10, onHeader, readIPv4}
+use Rattle.packet.specs.Read.{rows6to8, ipv4Header, ipv4Addresses, payload, segmentOf, row10, onFlags, tcpRows, onHeader, readIPv4}
 use Rattle.packet.specs.Reader.{ReaderOf}
 use Rattle.packet.specs.declared.Cause.{Cause}
 use Rattle.packet.specs.declared.FlagCheck.{FlagCheck}
@@ -147,16 +147,16 @@ record Stands (v : Version) (addresses : ℕ) (p : List ℕ) (r : IpRead) (k : F
   segment : g ≡ segmentOf p h t
 
 module _ (v : Version) (addresses : ℕ) (p : List ℕ) (k : Flow) (g : Segment) where
-  past-rows9to10 :
-      (h t : ℕ) → rows9to10 v addresses p h t ≡ Tcp k g →
+  past-tcpRows :
+      (h t : ℕ) → tcpRows v addresses p h t ≡ Tcp k g →
       (row10 (controlBits p h) (payload p h t) ≡ Fine) × (Tcp (flowAt v p addresses h) (segmentOf p h t) ≡ Tcp k g)
-  unfolding rows9to10
-  past-rows9to10 h t e = past-check _ _ _ (past-refusal _ _ _ (past-refusal _ _ _ (past-refusal _ _ _ e)))
+  unfolding tcpRows
+  past-tcpRows h t e = past-check _ _ _ (past-refusal _ _ _ (past-refusal _ _ _ (past-refusal _ _ _ (past-refusal _ _ _ e))))
 
   stands : (r : IpRead) → onHeader v addresses p r ≡ Tcp k g → Stands v addresses p r k g
   stands (BadHeader cause offset) e = false-true cc
   stands (CarriesTcp h t) e =
-      let both = past-rows9to10 h t e in
+      let both = past-tcpRows h t e in
       let same = both .1 in
       record { h = h; t = t; carries = refl; fine = both .0; flow = cc; segment = cc }
 

@@ -1,6 +1,6 @@
--- What reading a packet gives: answers 5 to 10 of document 01 in its order, 14 causes told apart, each with the byte offset that document 02,
--- item 2, gives it; or the flow and the segment.
--- The IP version decides rows 5 to 8 and where the addresses stand; rows 9 and 10 are TCP's, and the same for every version.
+-- What reading a packet gives: answers 5 to 10 of document 01 in its order, with 16 of document 02, item 5, after 9; 15 causes told apart, each
+-- with the byte offset that document 02, items 2 and 5, gives it; or the flow and the segment.
+-- The IP version decides rows 5 to 8 and where the addresses stand; rows 9, 16 and 10 are TCP's, and the same for every version.
 -- p is the packet's bytes, h its IP header's length, t its total length.
 use Prim.Native.Nat.{ℕ, _+_, _-_, _^_, _≤_, _<_}
 use mathlib.Core.Bool.{_&&_, _||_, not}
@@ -8,14 +8,16 @@ use mathlib.Core.List.{List}
 use lib.ListN.{length, take}
 use Rattle.choice.specs.Choice.{if_then_else_, _<ᵇ_, _=ᵇ_, _≠ᵇ_}
 use Rattle.address.specs.Address.{addressSize, flowAt}
+use Rattle.address.specs.declared.Flow.{Flow}
 use Rattle.address.specs.declared.Version.{Version}
 use Rattle.address.specs.declared.Version.the-variants.{V4}
 use Rattle.segment.specs.Flags.{fin, syn, rst, ack, control}
 use Rattle.segment.specs.declared.Segment.{Segment}
 use Rattle.packet.specs.Header.{version, headerLength, totalLength, moreFragments, fragmentOffset, protocol, sequenceNumber, acknowledgmentNumber, dataOffset, controlBits, window}
+use Rattle.packet.specs.TcpSum.{tcpSum}
 use Rattle.checksum.specs.Sum.{onesSum}
 use Rattle.packet.specs.declared.Cause.{Cause}
-use Rattle.packet.specs.declared.Cause.the-variants.{Short, OtherVersion, HeaderLength, TotalBelowHeader, TotalAboveGiven, HeaderSum, Fragment, Protocol, TcpShort, DataOffsetBelowFive, DataOffsetPastTotal, SynFinRst, NoSynAckRst, SynPayload}
+use Rattle.packet.specs.declared.Cause.the-variants.{Short, OtherVersion, HeaderLength, TotalBelowHeader, TotalAboveGiven, HeaderSum, Fragment, Protocol, TcpShort, DataOffsetBelowFive, DataOffsetPastTotal, TcpSum, SynFinRst, NoSynAckRst, SynPayload}
 use Rattle.packet.specs.declared.FlagCheck.{FlagCheck}
 use Rattle.packet.specs.declared.FlagCheck.the-variants.{BadFlags, Fine}
 use Rattle.packet.specs.declared.IpRead.{IpRead}
@@ -25,7 +27,7 @@ use Rattle.packet.specs.declared.PacketRead.the-variants.{Refused, Tcp}
 
 -- Causes
 
--- document 01's number of each cause
+-- the documents' number of each cause
 abbrev pub causeNumber : Cause → ℕ
 causeNumber Short = 5
 causeNumber OtherVersion = 5
@@ -38,12 +40,13 @@ causeNumber Protocol = 8
 causeNumber TcpShort = 9
 causeNumber DataOffsetBelowFive = 9
 causeNumber DataOffsetPastTotal = 9
+causeNumber TcpSum = 16
 causeNumber SynFinRst = 10
 causeNumber NoSynAckRst = 10
 causeNumber SynPayload = 10
 
--- document 02, item 2, "where it broke": the offset of each cause from the packet's first byte; 5 to 8 as IPv4's header has its fields, 9 and 10
--- as TCP's has, whatever version carries it
+-- document 02, item 2, "where it broke": the offset of each cause from the packet's first byte; 5 to 8 as IPv4's header has its fields, 9, 16
+-- and 10 as TCP's has, whatever version carries it
 abbrev pub causeOffset : ℕ → Cause → ℕ
 -- "5: 0 for the first three causes, 2 for total length"
 causeOffset h Short = 0
@@ -59,6 +62,8 @@ causeOffset h Protocol = 9
 causeOffset h TcpShort = h
 causeOffset h DataOffsetBelowFive = h + 12
 causeOffset h DataOffsetPastTotal = h + 12
+-- item 5: "offset h + 16"
+causeOffset h TcpSum = h + 16
 -- "10: h + 13"
 causeOffset h SynFinRst = h + 13
 causeOffset h NoSynAckRst = h + 13
@@ -129,29 +134,32 @@ abbrev pub onFlags : ℕ → FlagCheck → PacketRead → PacketRead
 onFlags h (BadFlags cause) read = refusal h cause
 onFlags h Fine read = read
 
--- 9 and 10, or the flow, by where the version has its addresses, and the segment
-unfoldable pub rows9to10 : Version → ℕ → List ℕ → ℕ → ℕ → PacketRead
-rows9to10 v addresses p h t =
+-- 9, 16 and 10, or the flow, by where the version has its addresses, and the segment
+unfoldable pub tcpRows : Version → ℕ → List ℕ → ℕ → ℕ → PacketRead
+tcpRows v addresses p h t =
+    let k : Flow = flowAt v p addresses h in
     -- 9: under 20 bytes follow the IP header within total length; TCP data offset under 5 words or past total length
     if t - h <ᵇ 20 then refusal h TcpShort
     else if dataOffset p h <ᵇ 20 then refusal h DataOffsetBelowFive
     else if t - h <ᵇ dataOffset p h then refusal h DataOffsetPastTotal
-    else onFlags h (row10 (controlBits p h) (payload p h t)) (Tcp (flowAt v p addresses h) (segmentOf p h t))
+    -- 16: the whole sum, with the pseudo-header, isn't ffff (document 02, item 5: "after 9 and before 10")
+    else if tcpSum v k p h t ≠ᵇ 0xffff then refusal h TcpSum
+    else onFlags h (row10 (controlBits p h) (payload p h t)) (Tcp k (segmentOf p h t))
 
 -- The whole: what the IP header refuses, and then what TCP's does
 
 abbrev pub onHeader : Version → ℕ → List ℕ → IpRead → PacketRead
 onHeader v addresses p (BadHeader cause offset) = Refused cause offset
-onHeader v addresses p (CarriesTcp h t) = rows9to10 v addresses p h t
+onHeader v addresses p (CarriesTcp h t) = tcpRows v addresses p h t
 
 abbrev pub readIPv4 : List ℕ → PacketRead
 readIPv4 p = onHeader V4 ipv4Addresses p (ipv4Header p)
 
--- what is carried lies behind the addresses and in the packet, with at most 65,535 octets after the IP header
+-- what is carried lies behind the addresses, within 60 bytes, and in the packet, with at most 65,535 octets after the IP header
 abbrev pub Inside : Version → ℕ → List ℕ → IpRead → Type 0
 Inside v addresses p (BadHeader cause offset) = Unit {0}
 Inside v addresses p (CarriesTcp h t) =
-    (addresses + addressSize v + addressSize v ≤ h) × (h ≤ t) × (t ≤ length p) × (t - h < 2 ^ 16)
+    (addresses + addressSize v + addressSize v ≤ h) × (h ≤ 60) × (h ≤ t) × (t ≤ length p) × (t - h < 2 ^ 16)
 
 -- the documents' answer and offset of a refusal; 0 and 0 where there is none
 abbrev pub answerAndOffset : PacketRead → ℕ × ℕ

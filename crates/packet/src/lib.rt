@@ -1,16 +1,21 @@
-// Reads a packet with one TCP segment: answers 5 to 10 of document 01 with the byte offset at which it broke, or the flow and the segment. The
-// IP version decides rows 5 to 8 and where the addresses stand; rows 9 and 10 are TCP's. There is a reader of IPv4.
+// Reads a packet with one TCP segment: answers 5 to 10 and 16 of the documents with the byte offset at which it broke, or the flow and the
+// segment. The IP version decides rows 5 to 8 and where the addresses stand; rows 9, 16 and 10 are TCP's. There is a reader of IPv4.
 ghost use mathlib.Core.Path.{_≡_};
 ghost use Prim.Native.Nat.{_+_, _-_, _^_, _≤_, _<_};
 ghost use lib.ListN.{length};
+ghost use Rattle.checksum.specs.Sum.{onesSum};
+ghost use Rattle.checksum.specs.Reduced.{reduced};
 ghost use Rattle.address.specs.Address.{addressSize};
 ghost use Rattle.segment.specs.Flags.{control};
 ghost use Rattle.packet.specs.Header.{dataOffset};
-ghost use Rattle.packet.specs.Read.{rows6to8, ipv4Header, ipv4Addresses, segmentOf, row10, rows9to10, readIPv4, Inside};
+ghost use Rattle.packet.specs.TcpSum.{halves, addressGroups, pseudoFields, segmentOctets};
+ghost use Rattle.packet.specs.Read.{rows6to8, ipv4Header, ipv4Addresses, segmentOf, row10, tcpRows, readIPv4, Inside};
 ghost use Rattle.packet.specs.Read.{causeNumber, answerAndOffset};
+use address::Address;
 use address::Flow;
 use address::Version;
 use address::read_flow;
+use checksum::carries_added;
 use checksum::ones_sum;
 use octets::read16;
 use octets::read32;
@@ -42,6 +47,8 @@ pub enum Cause {
     DataOffsetBelowFive,
     // 9: TCP data offset past total length.
     DataOffsetPastTotal,
+    // 16: the sum of the pseudo-header and the segment is not ffff.
+    TcpSum,
     // 10: SYN with FIN or RST.
     SynFinRst,
     // 10: none of SYN, ACK, RST.
@@ -69,7 +76,7 @@ enum FlagCheck {
 }
 
 impl Cause {
-    // The answer that document 01 numbers.
+    // The answer that the documents number.
     pub fn number(self) -> u32
         ensures { λ r. ⌜ r ≡ causeNumber self ⌝ }
     {
@@ -85,6 +92,7 @@ impl Cause {
             Cause::TcpShort => 9,
             Cause::DataOffsetBelowFive => 9,
             Cause::DataOffsetPastTotal => 9,
+            Cause::TcpSum => 16,
             Cause::SynFinRst => 10,
             Cause::NoSynAckRst => 10,
             Cause::SynPayload => 10,
@@ -141,13 +149,46 @@ fn read_segment(s: &[u8], h: usize, t: usize) -> Segment
     }
 }
 
-// Rows 9 and 10, for the TCP header at h in a packet that ends at t, by where its IP version has the addresses.
+// A number's two groups of 32 bits; in ones' complement they count alike.
+fn halves(n: u64) -> u64
+    ensures { λ r. ⌜ (r ≡ halves n) × (r < 2 ^ 33) ⌝ }
+{
+    n % 4294967296 + n / 4294967296
+}
+
+fn address_groups(address: Address) -> u64
+    ensures { λ r. ⌜ (r ≡ addressGroups address) × (r < 2 ^ 34) ⌝ }
+{
+    halves(address.high) + halves(address.low)
+}
+
+// The fields of the pseudo-header before a segment of n octets: addresses, protocol 6 and length.
+fn pseudo_fields(flow: Flow, n: usize) -> u64
+    requires { ⌜ n < 2 ^ 17 ⌝ }
+    ensures { λ r. ⌜ (r ≡ pseudoFields flow n) × (r < 2 ^ 36) ⌝ }
+{
+    address_groups(flow.from.address) + address_groups(flow.to.address) + 6 + n as u64
+}
+
+// The ones' complement sum of the pseudo-header and the segment from h to t.
+fn tcp_sum(flow: Flow, s: &[u8], h: usize, t: usize) -> u16
+    requires { ⌜ (h ≤ 60) × (h ≤ t) × (t ≤ length (now s)) × (t - h < 2 ^ 16) ⌝ }
+    ensures { λ r. ⌜ r ≡ reduced (pseudoFields flow (t - h) + onesSum (segmentOctets (now (s .entry)) h t)) ⌝ }
+{
+    let length = t - h;
+    let fields = pseudo_fields(flow, length);
+    let segment = ones_sum(&s[h..t]) as u64;
+    carries_added(fields + segment)
+}
+
+// Rows 9, 16 and 10, for the TCP header at h in a packet that ends at t, by where its IP version has the addresses.
 fn read_tcp(version: Version, addresses: usize, s: &[u8], h: usize, t: usize) -> PacketRead
-    requires { ⌜ (addresses + addressSize version + addressSize version ≤ h) × (h ≤ t) × (t ≤ length (now s)) × (t - h < 2 ^ 16) ⌝ }
-    ensures { λ r. ⌜ r ≡ rows9to10 version addresses (now (s .entry)) h t ⌝ }
+    requires { ⌜ (addresses + addressSize version + addressSize version ≤ h) × (h ≤ 60) × (h ≤ t) × (t ≤ length (now s)) × (t - h < 2 ^ 16) ⌝ }
+    ensures { λ r. ⌜ r ≡ tcpRows version addresses (now (s .entry)) h t ⌝ }
 {
     let data_offset_at = h + 12;
     let flags_at = h + 13;
+    let checksum_at = h + 16;
     if t - h < 20 {
         return PacketRead::Refused(Cause::TcpShort, h);
     }
@@ -158,13 +199,14 @@ fn read_tcp(version: Version, addresses: usize, s: &[u8], h: usize, t: usize) ->
     if t - h < data_offset {
         return PacketRead::Refused(Cause::DataOffsetPastTotal, data_offset_at);
     }
+    let flow = read_flow(version, s, addresses, h);
+    if tcp_sum(flow, s, h, t) != 65535 {
+        return PacketRead::Refused(Cause::TcpSum, checksum_at);
+    }
     let check = check_flags(s[flags_at], t - h - data_offset);
     match check {
         FlagCheck::BadFlags(cause) => PacketRead::Refused(cause, flags_at),
-        FlagCheck::Fine => PacketRead::Tcp(
-            read_flow(version, s, addresses, h),
-            read_segment(s, h, t),
-        ),
+        FlagCheck::Fine => PacketRead::Tcp(flow, read_segment(s, h, t)),
     }
 }
 

@@ -1,4 +1,4 @@
--- Laws of a line's result: how it goes by the reader's answer, that it is never 23, that 5 to 10 show their offset, that its text is short, and
+-- Laws of a line's result: how it goes by the reader's answer, that it is never 23, that 5 to 10 and 16 show their offset, that its text is short, and
 -- that a line cut at 4,112 bytes has it.
 use Prim.Native.Nat.{ℕ, _+_, _≤_, _<_}
 use mathlib.Core.Path.{_≡_, refl, sym, ap, _∙_}
@@ -27,6 +27,7 @@ use Rattle.rows.specs.Rows.{Blocked, Passed}
 use Rattle.packet.specs.Read.{readIPv4}
 use Rattle.packet.specs.declared.Cause.{Cause}
 use Rattle.packet.specs.declared.PacketRead.the-variants.{Refused}
+use Rattle.packet.proofs.Causes.{packet-answer-bounds}
 use Rattle.packet.proofs.Readable.{ipv4-reader}
 use Rattle.filter.specs.Call.{Outcome, ipv4Outcome, replyOf, tableAfter}
 use Rattle.filter.specs.declared.Reply.{Reply}
@@ -111,13 +112,13 @@ module _ (t packet : List ℕ) where
   call-shown (Blocked n place) within answer =
       let broken = broken-at V4 readIPv4 ipv4-reader packet n place (within .2) answer in
       (place, broken, offset-number n place (broken .cause) (broken .read-as) .1)
-  call-shown (Passed p now e) within answer = absurd (omega (arith, answer .0))
+  call-shown (Passed p now e) within answer = absurd (omega (arith, packet-answer-bounds answer .0))
 
 read-shown : (line t : List ℕ) (read : LineRead) → ShowsOffset (linePacket line) (ofRead read line t)
 unfolding readAnswer
-read-shown line t TooLong answer = absurd (omega (arith, answer .1))
-read-shown line t (Malformed offset) answer = absurd (omega (arith, answer .1))
-read-shown line t NoRoom answer = absurd (omega (arith, answer .1))
+read-shown line t TooLong answer = absurd (omega (arith, packet-answer-bounds answer .1))
+read-shown line t (Malformed offset) answer = absurd (omega (arith, packet-answer-bounds answer .1))
+read-shown line t NoRoom answer = absurd (omega (arith, packet-answer-bounds answer .1))
 read-shown line t (Frame side clock n) answer =
     call-shown t (linePacket line) (ipv4Outcome side clock t (linePacket line)) (outcome-within V4 side clock t (readIPv4 (linePacket line))) answer
 
@@ -152,9 +153,9 @@ unfolding shownText
 number-short t answer n small below =
     omega (arith, length-resultText answer (Number n), length-decimalText≤ 1 answer small, length-decimalText≤ 3 n below)
 
--- an answer of the filter is at most 15, an offset below 120, and a place below 512
+-- an answer of the filter is at most 16, an offset below 120, and a place below 512
 module _ (t packet : List ℕ) where
-  refusal-short : (n place : ℕ) → n ≤ 15 → Placed (readIPv4 packet) n place → Short (ofCall t (Blocked n place))
+  refusal-short : (n place : ℕ) → n ≤ 16 → Placed (readIPv4 packet) n place → Short (ofCall t (Blocked n place))
   unfolding shownPlace
   refusal-short n place most (by-reader cause is numbered) =
       let shown = offset-number t packet n place cause is in

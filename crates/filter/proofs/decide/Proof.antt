@@ -8,7 +8,7 @@ use Rattle.rows.specs.Connections.{connections}
 use Rattle.entry.specs.Layout.{headerSize, placeAt}
 use Rattle.entry.proofs.Places.{header-first}
 use Rattle.table.specs.Table.{viewOf}
-use Rattle.filter.specs.Call.{rows5to10}
+use Rattle.filter.specs.Call.{packetRows}
 use Rattle.filter.specs.Decision.{decisionOf}
 use Rattle.filter.proofs.Rows.{NotRefused, not-refused, past-row-4, legal-length-bounds, places-inside, sound-table-clock}
 use Rattle.filter.proofs.decide.Statement.{statement}
@@ -50,7 +50,7 @@ returns c =
     let a = s .args in
     let places = u .before .places-for .ensures in
     c .on-read .ensures
-    ∙ (λ i. decisionOf (rows5to10 Blocked (a .read)
+    ∙ (λ i. decisionOf (packetRows Blocked (a .read)
     (onSegment connections (viewOf (a .version) (a .table .now) (places i)) (u .clock-used .ensures i) (a .side))))
     ∙ ap decisionOf (sym (past-row-4 (a .version) (a .side) (a .clock) (a .table .now) (s .pre) (a .read)))
 

@@ -6,7 +6,7 @@ use Rattle.packet.specs.declared.PacketRead.{PacketRead}
 use Rattle.rows.specs.Rows.{Blocked, onSegment}
 use Rattle.rows.specs.Connections.{connections}
 use Rattle.table.specs.Table.{viewOf}
-use Rattle.filter.specs.Call.{Outcome, rows5to10}
+use Rattle.filter.specs.Call.{Outcome, packetRows}
 use Rattle.filter.specs.Decision.{decisionOf}
 use Rattle.filter.specs.declared.Decision.{Decision}
 use borrow.Author.Needs.{needs}
@@ -17,7 +17,7 @@ use Rattle.filter.proofs.on_read.Tie as tie
 abbrev comes : tie.Start → PacketRead → Outcome
 comes s r =
     let a = s .args in
-    rows5to10 Blocked r (onSegment connections (viewOf (a .version) (a .table .now) (a .places)) (a .clock) (a .side))
+    packetRows Blocked r (onSegment connections (viewOf (a .version) (a .table .now) (a .places)) (a .clock) (a .side))
 
 enum-known-read : tie.Need-enum-known-read
 enum-known-read c = search needs

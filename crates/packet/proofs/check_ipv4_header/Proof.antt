@@ -77,7 +77,7 @@ returns-4 c =
     let m = c .before .before in
     let k = m .before .before in
     let a = k .before .before .before .before .args in
-    (sym (past-row8 (a .s .now) (a .h) (a .t) (right k) (whole m) (c .if3 .left)), (omega arith, omega arith, omega arith, omega arith))
+    (sym (past-row8 (a .s .now) (a .h) (a .t) (right k) (whole m) (c .if3 .left)), (omega arith, omega arith, omega arith, omega arith, omega arith))
 
 pub check-ipv4-header-spec : {M : Type 1} → statement M
 check-ipv4-header-spec =

@@ -1,13 +1,21 @@
--- Row 9 by its tests, row 10 by what was found of the flags.
-use Prim.Native.Nat.{_+_}
-use mathlib.Core.Path.{sym, ap, _∙_}
+-- Row 9 by its tests, row 16 by the sum, row 10 by what was found of the flags.
+use Prim.Native.Nat.{_+_, _-_}
+use mathlib.Core.Path.{_≡_, sym, ap, _∙_}
 use native.Mathlib.Omega.{arith}
 use Rattle.choice.proofs.Choice.{if-<, if-<-not}
-use Rattle.packet.specs.Read.{causeOffset, rows9to10}
-use Rattle.packet.specs.declared.Cause.the-variants.{TcpShort, DataOffsetBelowFive, DataOffsetPastTotal}
+use Rattle.octets.specs.Octets.{Octets}
+use Rattle.address.specs.Address.{flowAt}
+use Rattle.address.specs.declared.Flow.{Flow}
+use Rattle.address.proofs.Laws.{fits-flowAt}
+use Rattle.checksum.specs.Sum.{onesSum}
+use Rattle.checksum.specs.Reduced.{reduced}
+use Rattle.packet.specs.TcpSum.{segmentOctets, tcpSum, pseudoFields}
+use Rattle.packet.specs.Read.{causeOffset, tcpRows}
+use Rattle.packet.specs.declared.Cause.the-variants.{TcpShort, DataOffsetBelowFive, DataOffsetPastTotal, TcpSum}
 use Rattle.packet.specs.declared.PacketRead.the-variants.{Refused, Tcp}
 use Rattle.packet.proofs.Flags.{flags-offset}
-use Rattle.packet.proofs.Read.{refused-row10, past-row10}
+use Rattle.packet.proofs.TcpSum.{tcpSum≡reduced}
+use Rattle.packet.proofs.Read.{refused-row16, refused-row10, past-row10}
 use borrow.Author.Needs.{needs}
 use Rattle.packet.proofs.read_tcp.Statement.{statement}
 use Rattle.packet.proofs.read_tcp.Tie as tie
@@ -18,11 +26,14 @@ add-data-offset-at c = search needs
 add-flags-at : tie.Need-add-flags-at
 add-flags-at c = search needs
 
+add-checksum-at : tie.Need-add-checksum-at
+add-checksum-at c = search needs
+
 sub-if1 : tie.Need-sub-if1
 sub-if1 c = search needs
 
 returns : tie.Need-returns
-unfolding rows9to10
+unfolding tcpRows
 returns c = ap (Refused TcpShort) (omega arith) ∙ sym (if-< _ _ (c .if1 .taken))
 
 shared-slice-read-data-offset : tie.Need-shared-slice-read-data-offset
@@ -35,7 +46,7 @@ mul-data-offset : tie.Need-mul-data-offset
 mul-data-offset c = omega (arith, c .shared-slice-known2 .given (c .before .before .before .args .h + 12))
 
 returns-2 : tie.Need-returns-2
-unfolding rows9to10
+unfolding tcpRows
 returns-2 c =
     ap (Refused DataOffsetBelowFive) (omega arith)
     ∙ sym (if-<-not _ _ (c .before .before .if1 .left) ∙ if-< _ _ (c .if2 .taken))
@@ -44,10 +55,38 @@ sub-if3 : tie.Need-sub-if3
 sub-if3 c = search needs
 
 returns-3 : tie.Need-returns-3
-unfolding rows9to10
+unfolding tcpRows
 returns-3 c =
     ap (Refused DataOffsetPastTotal) (omega arith)
     ∙ sym (if-<-not _ _ (c .before .before .before .if1 .left) ∙ if-<-not _ _ (c .before .if2 .left) ∙ if-< _ _ (c .if3 .taken))
+
+read-flow-requires : tie.Need-read-flow-requires
+read-flow-requires c κs = search needs
+
+tcp-sum-requires : tie.Need-tcp-sum-requires
+tcp-sum-requires c κs = search needs
+
+-- what was summed is the segment behind the pseudo-header of its flow
+summed :
+    (c : tie.After-tcp-sum) →
+    let a = c .before .before .before .before .before .before .before .args in
+    c .tcp-sum .result ≡ tcpSum (a .version) (flowAt (a .version) (a .s .now) (a .addresses) (a .h)) (a .s .now) (a .h) (a .t)
+summed c =
+    let k = c .before .before .before .before .before .before in
+    let a = k .before .args in
+    let p = a .s .now in
+    let octets : Octets p = λ i. k .shared-slice-known .given i .fits in
+    c .tcp-sum .ensures
+    ∙ ap (λ (f : Flow). reduced (pseudoFields f (a .t - a .h) + onesSum (segmentOctets p (a .h) (a .t)))) (c .before .read-flow .ensures)
+    ∙ sym (tcpSum≡reduced (a .version) _ p (a .h) (a .t) (fits-flowAt (a .version) p (a .addresses) (a .h) octets) octets (omega arith))
+
+returns-4 : tie.Need-returns-4
+returns-4 c =
+    let m = c .before .before .before in
+    let a = m .before .before .before .before .before .args in
+    let refused = refused-row16 (a .version) (a .addresses) (a .s .now) (a .h) (a .t) in
+    ap (Refused TcpSum) (omega arith)
+    ∙ sym (refused (m .before .before .before .if1 .left) (m .before .if2 .left) (m .if3 .left) (λ e. c .if4 .taken (summed (c .before) ∙ e)))
 
 shared-slice-read-check-flags : tie.Need-shared-slice-read-check-flags
 shared-slice-read-check-flags c = search needs
@@ -67,32 +106,37 @@ enum-known-check c = search needs
 enum-told : tie.Need-enum-told
 enum-told c = search needs
 
-read-flow-requires : tie.Need-read-flow-requires
-read-flow-requires c κs = search needs
-
 read-segment-requires : tie.Need-read-segment-requires
 read-segment-requires c κs = search needs
 
-returns-4 : tie.Need-returns-4
-returns-4 c =
+right :
+    (e : tie.Else4) →
+    let a = e .before .before .before .before .before .before .before .before .args in
+    tcpSum (a .version) (flowAt (a .version) (a .s .now) (a .addresses) (a .h)) (a .s .now) (a .h) (a .t) ≡ 65535
+right e = sym (summed (e .before)) ∙ e .if4 .left
+
+returns-5 : tie.Need-returns-5
+returns-5 c =
     let k = c .before .before .before in
-    let m = k .before .before in
+    let e = k .before .before in
+    let m = e .before .before .before in
     let a = m .before .before .before .before .before .args in
     let refused = refused-row10 (a .version) (a .addresses) (a .s .now) (a .h) (a .t) in
     let cause = c .before .check .given .0 .0 in
     let bad = sym (k .check-flags .ensures) ∙ c .before .check .given .1 in
     ap (Refused cause) {y = causeOffset (a .h) cause} (omega (arith, flags-offset (a .h) _ _ cause bad))
-    ∙ sym (refused (m .before .before .before .if1 .left) (m .before .if2 .left) (m .if3 .left) _ bad)
+    ∙ sym (refused (m .before .before .before .if1 .left) (m .before .if2 .left) (m .if3 .left) (right e) _ bad)
 
-returns-5 : tie.Need-returns-5
-returns-5 c =
-    let k = c .before .before .before .before in
-    let m = k .before .before in
+returns-6 : tie.Need-returns-6
+returns-6 c =
+    let k = c .before .before .before in
+    let e = k .before .before in
+    let m = e .before .before .before in
     let a = m .before .before .before .before .before .args in
     let past = past-row10 (a .version) (a .addresses) (a .s .now) (a .h) (a .t) in
-    let fine = sym (k .check-flags .ensures) ∙ c .before .before .enum-told .given .1 in
-    (λ i. Tcp (c .before .read-flow .ensures i) (c .read-segment .ensures i))
-    ∙ sym (past (m .before .before .before .if1 .left) (m .before .if2 .left) (m .if3 .left) fine)
+    let fine = sym (k .check-flags .ensures) ∙ c .before .enum-told .given .1 in
+    (λ i. Tcp (e .before .before .read-flow .ensures i) (c .read-segment .ensures i))
+    ∙ sym (past (m .before .before .before .if1 .left) (m .before .if2 .left) (m .if3 .left) (right e) fine)
 
 pub read-tcp-spec : {M : Type 1} → statement M
 read-tcp-spec =
@@ -100,6 +144,7 @@ read-tcp-spec =
     (tie.spec
     add-data-offset-at
     add-flags-at
+    add-checksum-at
     sub-if1
     returns
     shared-slice-read-data-offset
@@ -108,13 +153,15 @@ read-tcp-spec =
     returns-2
     sub-if3
     returns-3
+    read-flow-requires
+    tcp-sum-requires
+    returns-4
     shared-slice-read-check-flags
     sub-check-flags
     sub-check-flags-2
     check-flags-requires
     enum-known-check
     enum-told
-    read-flow-requires
     read-segment-requires
-    returns-4
-    returns-5)
+    returns-5
+    returns-6)

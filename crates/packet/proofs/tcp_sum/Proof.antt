@@ -1,0 +1,72 @@
+-- The fields and the segment's sum, with every carry added in.
+use Prim.Native.Nat.{ℕ, _+_, _-_, _≤_}
+use mathlib.Core.Path.{_≡_, ap, ap₂, _∙_}
+use mathlib.Core.List.{List}
+use native.Mathlib.Omega.{arith}
+use lib.ListN.{length}
+use Rattle.checksum.specs.Sum.{onesSum}
+use Rattle.checksum.specs.Reduced.{reduced}
+use Rattle.packet.specs.TcpSum.{segmentOctets}
+use borrow.Author.Needs.{needs}
+use Rattle.packet.proofs.tcp_sum.Statement.{statement}
+use Rattle.packet.proofs.tcp_sum.Tie as tie
+
+sub-length : tie.Need-sub-length
+sub-length c = search needs
+
+pseudo-fields-requires : tie.Need-pseudo-fields-requires
+pseudo-fields-requires c κs = search needs
+
+sub-ones-sum : tie.Need-sub-ones-sum
+sub-ones-sum c = search needs
+
+part-ones-sum-start : tie.Need-part-ones-sum-start
+part-ones-sum-start c = search needs
+
+part-ones-sum-end : tie.Need-part-ones-sum-end
+part-ones-sum-end c = search needs
+
+ones-sum-requires : tie.Need-ones-sum-requires
+ones-sum-requires c κs = search needs
+
+cast-segment : tie.Need-cast-segment
+cast-segment c = search needs
+
+add-carries-added : tie.Need-add-carries-added
+add-carries-added c = search needs
+
+carries-added-requires : tie.Need-carries-added-requires
+carries-added-requires c κs = search needs
+
+-- a sum of what stands from a to e, where these are h and t; that they are in order and inside tells which they are
+from-to :
+    {r a e : ℕ} (l : List ℕ) (h t : ℕ) → a ≤ e → e ≤ length l → r ≡ onesSum (segmentOctets l a e) → a ≡ h → e ≡ t →
+    r ≡ onesSum (segmentOctets l h t)
+from-to l h t ordered inside sum first last = sum ∙ ap₂ (λ (a e : ℕ). onesSum (segmentOctets l a e)) first last
+
+-- the part that was summed is the segment
+summed :
+    (c : tie.After-ones-sum) →
+    let a = c .before .before .before .before .args in c .ones-sum .result ≡ onesSum (segmentOctets (a .s .now) (a .h) (a .t))
+summed c =
+    let a = c .before .before .before .before .args in
+    let k = c .before .before in
+    from-to (a .s .now) (a .h) (a .t) (part-ones-sum-start k) (part-ones-sum-end k) (c .ones-sum .ensures) (omega arith) (omega arith)
+
+returns : tie.Need-returns
+returns c = c .carries-added .ensures ∙ ap reduced (omega (arith, summed (c .before)))
+
+pub tcp-sum-spec : {M : Type 1} → statement M
+tcp-sum-spec =
+    tie.close
+    (tie.spec
+    sub-length
+    pseudo-fields-requires
+    sub-ones-sum
+    part-ones-sum-start
+    part-ones-sum-end
+    ones-sum-requires
+    cast-segment
+    add-carries-added
+    carries-added-requires
+    returns)
