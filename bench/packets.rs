@@ -1,5 +1,5 @@
 //! The packets that are filtered: segments of made-up connections.
-use reference::checksum::ones_complement_sum;
+use reference::checksum::{ones_complement_sum, write_tcp_checksum};
 use reference::table::Names;
 
 pub const SYN: u8 = 0x02;
@@ -39,21 +39,8 @@ impl Draft {
         packet.extend(self.tcp_header());
         // Bytes of every value, so that the hex digits of a trace line are mixed.
         packet.extend((packet.len()..self.total).map(|at| (at * 7) as u8));
-        self.write_tcp_checksum(&mut packet);
+        write_tcp_checksum(&mut packet);
         packet
-    }
-
-    /// The field was zero: what the pseudo-header and the segment lack to a sum of ffff.
-    fn write_tcp_checksum(&self, packet: &mut [u8]) {
-        let length = (self.total - self.header) as u16;
-        let mut summed = Vec::new();
-        summed.extend(self.names.opener_address.to_be_bytes());
-        summed.extend(self.names.answerer_address.to_be_bytes());
-        summed.extend([0, 6]);
-        summed.extend(length.to_be_bytes());
-        summed.extend(&packet[self.header..]);
-        let sum = ones_complement_sum(&summed);
-        packet[self.header + 16..self.header + 18].copy_from_slice(&(!sum).to_be_bytes());
     }
 
     fn ip_header(&self) -> Vec<u8> {

@@ -1,4 +1,4 @@
-/* Runs the example of docs/RULES.md through the library: each line is read, the filter asked about its packet, and the packet written back as a line. Then a damaged packet and a
+/* Runs the example of docs/RULES.md through the library: each line is read, the filter asked about its packet, and the packet written back as a line. Then a damaged packet, twice, and a
    wrong side, which print nothing if they are answered as they should be. */
 #include <stdio.h>
 #include <string.h>
@@ -48,7 +48,8 @@ int main(void) {
     }
     printf("passed %zu of %zu\n", passed, lines);
 
-    /* On answers 5 to 10 the place is the offset of the field that failed: 10, the header's checksum, though it is byte 8 that was changed. */
+    /* On answers 5 to 10 and 16 the place is the offset of the field that failed: 10, the IP header's checksum, though it is byte 8 that was changed,
+       and 36, TCP's, though it is byte 27. */
     uint8_t damaged[QB_MOST_PACKET_BYTES];
     uint8_t side;
     uint64_t clock;
@@ -57,11 +58,15 @@ int main(void) {
         fprintf(stderr, "the first line is not read again\n");
         return 1;
     }
-    damaged[8]--;
-    uint32_t refused = qb_filter(side, clock, table, sizeof table, damaged, length);
-    if (qb_answer(refused) != 6 || qb_place(refused) != 10) {
-        fprintf(stderr, "a wrong checksum is not told, %u at %u\n", qb_answer(refused), qb_place(refused));
-        return 1;
+    static const struct { size_t byte; uint32_t answer, offset; } faults[] = {{8, 6, 10}, {27, 16, 36}};
+    for (size_t i = 0; i < sizeof faults / sizeof faults[0]; i++) {
+        damaged[faults[i].byte]--;
+        uint32_t refused = qb_filter(side, clock, table, sizeof table, damaged, length);
+        if (qb_answer(refused) != faults[i].answer || qb_place(refused) != faults[i].offset) {
+            fprintf(stderr, "a wrong checksum is not told, %u at %u\n", qb_answer(refused), qb_place(refused));
+            return 1;
+        }
+        damaged[faults[i].byte]++;
     }
 
     /* A side is not cut to fewer bits: 256 is answered 1, not as side 0. */

@@ -1,5 +1,5 @@
 //! Runs the example of docs/RULES.md through the library: each line is read, the filter asked about its packet,
-//! and the packet written back as a line. Then a damaged packet, which prints nothing if it is answered as it should be.
+//! and the packet written back as a line. Then a damaged packet, twice, which prints nothing if it is answered as it should be.
 
 /// The library's functions. They are safe to call on references, which are never null, point to as
 /// many bytes as their lengths say, and of which no `&mut` overlaps another.
@@ -49,7 +49,7 @@ mod quaybonnet {
     pub enum Answer {
         /// 0: it may pass, by the entry at this place of the table.
         Passed { place: u32 },
-        /// 5 to 10: it broke at this byte offset. Where bytes are missing that may be the packet's length.
+        /// 5 to 10 and 16: it broke at this byte offset. Where bytes are missing that may be the packet's length.
         Broken { number: u32, offset: u32 },
         /// Every other number.
         Blocked { number: u32 },
@@ -167,19 +167,18 @@ fn main() -> Result<(), String> {
     }
     println!("passed {passed} of {}", TRACE.len());
 
-    // The offset is that of the field that failed: 10, the header's checksum, though it is byte 8 that was changed.
+    // The offset is that of the field that failed: 10, the IP header's checksum, though it is byte 8 that was
+    // changed, and 36, TCP's, though it is byte 27.
     let mut packet = [0; quaybonnet::MOST_PACKET_BYTES];
     let whole = quaybonnet::read_line(TRACE[0].as_bytes(), &mut packet)
         .map_err(|unread| format!("not read, {}", unread.number))?;
-    let mut damaged = whole.packet.to_vec();
-    damaged[8] -= 1;
-    let refused = quaybonnet::filter(whole.side.into(), whole.clock, &mut table, &damaged);
-    let expected = Answer::Broken {
-        number: 6,
-        offset: 10,
-    };
-    if refused != expected {
-        return Err(format!("a wrong checksum is not told: {refused:?}"));
+    for (byte, number, offset) in [(8, 6, 10), (27, 16, 36)] {
+        let mut damaged = whole.packet.to_vec();
+        damaged[byte] -= 1;
+        let refused = quaybonnet::filter(whole.side.into(), whole.clock, &mut table, &damaged);
+        if refused != (Answer::Broken { number, offset }) {
+            return Err(format!("a wrong checksum is not told: {refused:?}"));
+        }
     }
     Ok(())
 }

@@ -20,13 +20,13 @@ extern "C" {
 /* Length in bytes of a table with n places, n from 1 to 512. All zeros are a fresh table. */
 #define QB_TABLE_LENGTH(n) (64 * ((n) + 1))
 
-/* The place of every answer but 0 and 5 to 10. */
+/* The place of every answer but 0, 5 to 10 and 16. */
 #define QB_NO_PLACE 65535
 
 /*
  * Asks the filter about one packet: the side that it came from (0 or 1), a clock in ms, the table, the packet from its IPv4 header on.
  * Returns answer * 65536 + place. On answer 0 the packet may pass, and the header clock and the entry at that place have been written;
- * on every other it is to be dropped, and no byte of the table has changed. On answers 5 to 10 the place is the offset in the packet of the field
+ * on every other it is to be dropped, and no byte of the table has changed. On answers 5 to 10 and 16 the place is the offset in the packet of the field
  * that failed or, where bytes are missing, of the header that is cut short; it is not a place of the table, so tell a pass by the answer alone.
  * It is below packet_len, or equal to it where the packet is empty (5) or ends with its IP header (9): compare before you index. It is always
  * below 120. Every other refusal has QB_NO_PLACE. The packet is only read. Any side, clock, lengths and bytes are answered. The answer is the first
@@ -40,6 +40,7 @@ extern "C" {
  *    7  it is a fragment [6]
  *    8  it is not TCP [9]
  *    9  under 20 bytes follow the IP header within total length [h]; TCP data offset under 5 words or past total length [h + 12]
+ *   16  the TCP checksum is wrong, of the pseudo-header and the segment up to total length [h + 16]
  *   10  SYN with FIN or RST, none of SYN, ACK and RST, or SYN with payload [h + 13]
  *   11  no live connection matches, and it is not a SYN without ACK from side 0
  *   12  it would open a connection, and no place is free or expired

@@ -1,14 +1,14 @@
 //! The filter: one call (document 01, "What the gate says"). "One call takes
 //! side, clock, table, packet. It gives an answer and a place. The first line
 //! that applies wins, top to bottom." Where the packet reader refuses, the place
-//! is the reader's offset (document 02, item 2).
+//! is the reader's offset (document 02, items 2 and 5).
 
 use crate::connection::{self, Connection};
 use crate::packet::{self, ACK, SYN};
 use crate::table::{self, Entry, Names};
 
 /// "Every other answer gives place 65,535": every one but a pass and, by
-/// document 02, item 2, answers 5 to 10.
+/// document 02, items 2 and 5, answers 5 to 10 and 16.
 pub const NO_PLACE: u32 = 65_535;
 
 /// "otherwise: passed"
@@ -42,7 +42,8 @@ struct Refusal {
     place: u32,
 }
 
-/// "For answers 5 to 10 the place becomes a byte offset"
+/// "For answers 5 to 10 the place becomes a byte offset", and item 5: "16 where
+/// the whole sum isn't ffff, [..] offset h + 16".
 fn at_offset(refusal: packet::Refusal) -> Refusal {
     Refusal {
         answer: refusal.answer,

@@ -1,11 +1,11 @@
 //! Reads an IPv4 packet that holds one TCP segment.
 //!
-//! The refusals are answers 5 to 10 of document 01, each with the offset that
-//! document 02, item 2, gives it: "The first cause in document 01's order
-//! counts." The IP header is laid out as in RFC 791, section 3.1, the TCP
-//! header as in RFC 9293, section 3.1.
+//! The refusals are answers 5 to 10 of document 01 and 16 of document 02, item
+//! 5, each with the offset that document 02, items 2 and 5, gives it: "The first
+//! cause in document 01's order counts." The IP header is laid out as in RFC
+//! 791, section 3.1, the TCP header as in RFC 9293, section 3.1.
 
-use crate::checksum::ones_complement_sum;
+use crate::checksum::{ones_complement_sum, tcp_sum};
 
 pub const FIN: u8 = 0x01;
 pub const SYN: u8 = 0x02;
@@ -15,7 +15,7 @@ pub const ACK: u8 = 0x10;
 /// Why a packet is refused, and where it broke.
 #[derive(Clone, Copy, Debug, PartialEq, Eq)]
 pub struct Refusal {
-    /// 5 to 10.
+    /// 5 to 10, or 16.
     pub answer: u32,
     /// In bytes from the packet's first one.
     pub offset: u32,
@@ -42,6 +42,8 @@ const NOT_TCP: Refusal = refusal(8, 9);
 const SHORT_SEGMENT: Refusal = refusal(9, 0);
 /// "TCP data offset under 5 words or past total length": "else h + 12"
 const BAD_DATA_OFFSET: Refusal = refusal(9, 12);
+/// "16 where the whole sum isn't ffff, after 9 and before 10, offset h + 16"
+const BAD_TCP_SUM: Refusal = refusal(16, 16);
 /// "SYN with FIN or RST; none of SYN, ACK, RST; SYN with payload":
 /// "10: h + 13"
 const BAD_FLAGS: Refusal = refusal(10, 13);
@@ -98,6 +100,9 @@ pub fn read(bytes: &[u8]) -> Result<Segment, Refusal> {
         return Err(NOT_TCP);
     }
     let (tcp, payload) = split_tcp(ip_payload).map_err(|refusal| refusal.after(ip))?;
+    if tcp_sum(ip, ip_payload) != 0xffff {
+        return Err(BAD_TCP_SUM.after(ip));
+    }
     let flags = tcp[13] & (FIN | SYN | RST | ACK);
     if !flags_allowed(flags, payload) {
         return Err(BAD_FLAGS.after(ip));
@@ -234,5 +239,93 @@ mod tests {
         assert_eq!(answer(6, 24), None);
         assert_eq!(answer(15, 59), Some(refusal(9, 36)));
         assert_eq!(answer(15, 60), None);
+    }
+
+    /// Document 01's third example packet with the octet 61 for payload. It
+    /// adds 0001 to total length and to the TCP length, so the sums become
+    /// 66ce - 0001 and 913f - 0001 - 6100.
+    const ONE_OCTET: [u8; 41] = [
+        0x45, 0x00, 0x00, 0x29, 0x00, 0x00, 0x00, 0x00, 0x40, 0x06, 0x66, 0xcd, 0x0a, 0x00, 0x00,
+        0x01, 0x0a, 0x00, 0x00, 0x02, 0x04, 0x00, 0x00, 0x50, 0x00, 0x00, 0x00, 0x65, 0x00, 0x00,
+        0x01, 0xf6, 0x50, 0x10, 0x03, 0xe8, 0x30, 0x3e, 0x00, 0x00, 0x61,
+    ];
+
+    /// The same with an IP header of 24 bytes: its words come to 0100 + 0004 +
+    /// 0101 + 0101 = 0306 more. The TCP checksum stays.
+    fn with_options() -> Vec<u8> {
+        let mut packet = ONE_OCTET.to_vec();
+        packet.splice(20..20, [1; 4]);
+        packet[0] = 0x46;
+        packet[3] = 0x2d;
+        packet[10..12].copy_from_slice(&[0x63, 0xc7]);
+        packet
+    }
+
+    #[test]
+    fn where_a_tcp_sum_broke() {
+        for (mut packet, h) in [(ONE_OCTET.to_vec(), 20), (with_options(), 24)] {
+            let octets = read(&packet).map(|segment| segment.octets);
+            assert_eq!(octets, Ok(1));
+            let at_offset = |answer, past: u32| Err(refusal(answer, h as u32 + past));
+            for at in h..h + 21 {
+                packet[at] ^= 1;
+                assert_eq!(read(&packet), at_offset(16, 16), "{at}");
+                packet[at] ^= 1;
+            }
+            // Before row 10: the flags stand in their word in place of ACK.
+            for flags in [SYN, SYN | FIN, SYN | RST, 0, FIN] {
+                packet[h + 13] = flags;
+                assert_eq!(read(&packet), at_offset(16, 16));
+                let checksum = 0x303e + u16::from(ACK) - u16::from(flags);
+                packet[h + 16..h + 18].copy_from_slice(&checksum.to_be_bytes());
+                assert_eq!(read(&packet), at_offset(10, 13));
+                packet[h + 16..h + 18].copy_from_slice(&[0x30, 0x3e]);
+            }
+            // After row 9.
+            packet[h + 12] = 0x40;
+            assert_eq!(read(&packet), at_offset(9, 12));
+        }
+    }
+
+    #[test]
+    fn addresses_are_in_the_tcp_sum() {
+        // One up in the source, one down in the sum of the header.
+        let mut packet = ONE_OCTET;
+        packet[15] += 1;
+        packet[11] -= 1;
+        assert_eq!(read(&packet), Err(refusal(16, 36)));
+        packet[37] -= 1;
+        assert_eq!(read(&packet).map(|segment| segment.octets), Ok(1));
+    }
+
+    /// "Bytes past total length are ignored", also the one beside an odd octet.
+    #[test]
+    fn the_tcp_sum_ends_at_total_length() {
+        let expected = read(&ONE_OCTET);
+        assert!(expected.is_ok());
+        for past in [0x00, 0x01, 0xff] {
+            for more in 1..5 {
+                let mut packet = ONE_OCTET.to_vec();
+                packet.resize(41 + more, past);
+                assert_eq!(read(&packet), expected);
+            }
+        }
+    }
+
+    /// In ones' complement 0000 and ffff are both a zero: where the other words
+    /// come to ffff, either is right. No field tells that there is no checksum.
+    #[test]
+    fn zero_in_the_field() {
+        let with = |field: u16, urgent: u16| {
+            let mut packet = ONE_OCTET;
+            packet[36..38].copy_from_slice(&field.to_be_bytes());
+            packet[38..40].copy_from_slice(&urgent.to_be_bytes());
+            read(&packet).map(|segment| segment.octets)
+        };
+        assert_eq!(with(0x0000, 0x303e), Ok(1));
+        assert_eq!(with(0xffff, 0x303e), Ok(1));
+        for (field, urgent) in [(1, 0x303e), (0xfffe, 0x303e), (0, 0), (0xffff, 0)] {
+            assert_eq!(with(field, urgent), Err(refusal(16, 36)));
+        }
     }
 }

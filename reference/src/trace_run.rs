@@ -22,9 +22,9 @@ pub struct TraceRun {
     lines: u64,
 }
 
-/// What a line gave: the answer, and the place or offset. By document 02, item
-/// 2, the place of answers 5 to 10 is an offset in the packet: "all above hand
-/// it on, the program prints it".
+/// What a line gave: the answer, and the place or offset. By document 02, items
+/// 2 and 5, the place of answers 5 to 10 and 16 is an offset in the packet: "all
+/// above hand it on, the program prints it".
 #[derive(Clone, Copy, Debug, PartialEq, Eq)]
 pub struct LineAnswer {
     pub answer: u32,
@@ -173,7 +173,7 @@ mod tests {
         assert_eq!(printed(EXAMPLE.trim_end().as_bytes()), expected);
     }
 
-    /// The example's first packet, refused by each of answers 5 to 10: the
+    /// The example's first packet, refused by each of answers 5 to 10 and 16: the
     /// offset is printed, and `-` only for the others.
     #[test]
     fn refused_packets() {
@@ -215,14 +215,23 @@ mod tests {
                 "4500002700000000400666cf0a0000010a000002040000500000006400000000500203e893440000",
                 "9 20",
             ),
-            // Data offset 4 words, SYN with FIN.
+            // Data offset 4 words; SYN with FIN, where the TCP checksum does not
+            // follow, then does; the same checksum without FIN.
             (
                 "4500002800000000400666ce0a0000010a000002040000500000006400000000400203e893440000",
                 "9 32",
             ),
             (
                 "4500002800000000400666ce0a0000010a000002040000500000006400000000500303e893440000",
+                "16 36",
+            ),
+            (
+                "4500002800000000400666ce0a0000010a000002040000500000006400000000500303e893430000",
                 "10 33",
+            ),
+            (
+                "4500002800000000400666ce0a0000010a000002040000500000006400000000500203e893430000",
+                "16 36",
             ),
         ];
         for (packet, expected) in packets {

@@ -9,6 +9,7 @@ mod honest;
 mod lines;
 mod random;
 mod tables;
+mod tcp_sums;
 mod world;
 
 pub use calls::{calls, Call, Calls};

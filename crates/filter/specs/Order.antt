@@ -5,6 +5,7 @@ use Prim.Native.Nat.{ℕ, _-_, _^_}
 use mathlib.Core.Path.{_≡_}
 use mathlib.Core.List.{List, [], _∷_, _++_}
 use lib.ListN.{replicate}
+use Rattle.packet.specs.Examples.{ipv4, tcp}
 use Rattle.rows.specs.Rows.{nowhere}
 use Rattle.filter.specs.Call.{ipv4Outcome, replyOf}
 use Rattle.filter.specs.declared.Reply.{Reply}
@@ -15,20 +16,6 @@ fresh = replicate 128 0
 
 abbrev unsound : List ℕ
 unsound = replicate 63 0 ++ (1 ∷ replicate 64 0)
-
--- Packets: 20 bytes of IPv4 header, the first with version and header length, from 10.0.0.from to 10.0.0.to, before the rest; 20 bytes of TCP.
--- Each has the two bytes of its checksum
-abbrev pub ipv4 : (first length fragment protocol sum sum' from to : ℕ) → List ℕ → List ℕ
-ipv4 first length fragment protocol sum sum' from to rest =
-    first ∷ 0 ∷ 0 ∷ length
-    ∷ 0 ∷ 0 ∷ fragment ∷ 0
-    ∷ 64 ∷ protocol ∷ sum ∷ sum'
-    ∷ 10 ∷ 0 ∷ 0 ∷ from
-    ∷ 10 ∷ 0 ∷ 0 ∷ to
-    ∷ rest
-
-abbrev tcp : (dataOffsetByte flags sum sum' : ℕ) → List ℕ
-tcp dataOffsetByte flags sum sum' = replicate 12 0 ++ (dataOffsetByte ∷ flags ∷ 0 ∷ 0 ∷ sum ∷ sum' ∷ 0 ∷ 0 ∷ [])
 
 abbrev filtered : (side clock : ℕ) (table packet : List ℕ) → Reply
 filtered side clock table packet = replyOf (ipv4Outcome side clock table packet)

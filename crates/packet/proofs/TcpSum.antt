@@ -19,13 +19,14 @@ use Rattle.packet.specs.TcpSum.{pseudoRest, pseudoHeader, segmentOctets,
 
 -- 2^32 too is 1 modulo 65,535
 halves-reduced : (n : ℕ) → reduced n ≡ reduced (halves n)
-unfolding reduced
+unfolding reduced halves
 halves-reduced n = omega arith
 
 sums-halves : (n : ℕ) → n < 2 ^ 64 → SumsTo (octetsOf 8 n) (halves n)
 sums-halves n small = sums-as (halves-reduced n) (sums-number 4 n small)
 
 address-sums : (v : Version) (a : Address) → IsAddress v a → SumsTo (addressOctets v a) (addressGroups a)
+unfolding halves
 address-sums V4 a is =
     let low : a .low ≡ addressGroups a = omega (arith, is .0, is .1) in
     sums-as (ap reduced low) (sums-number 2 (a .low) (is .1))

@@ -32,7 +32,7 @@ tcpSum v k p h t = onesSum (pseudoHeader v k (t - h) ++ segmentOctets p h t)
 -- What the code adds up of either version's pseudo-header: its fields as numbers, an address by groups of 32 bits. The sum of a number's octets is
 -- the number with its carries added in.
 
-abbrev pub halves : ℕ → ℕ
+unfoldable pub halves : ℕ → ℕ
 halves n = n % 4294967296 + n / 4294967296
 
 abbrev pub addressGroups : Address → ℕ

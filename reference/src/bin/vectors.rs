@@ -2,9 +2,10 @@
 //! ones' complement sum.
 //!
 //! The expected results were worked out by hand from document 01, document 02,
-//! item 2, and RFC 1071 and stand in the tables as the lines that a run prints.
-//! The program checks that this library agrees with all of them, then prints the
-//! input script (argument `stdin`) or the expected output (argument `stdout`).
+//! items 2 and 5, and RFC 1071 and RFC 9293 and stand in the tables as the lines
+//! that a run prints. The program checks that this library agrees with all of
+//! them, then prints the input script (argument `stdin`) or the expected output
+//! (argument `stdout`).
 //!
 //! The script, each line ended by a newline; a buffer starts empty:
 //!
@@ -12,7 +13,7 @@
 //! - `b HEX`: appends bytes, at most 2,000, to the buffer.
 //! - `f BB NNNNN`: appends that many copies of the byte `BB`, in decimal.
 //! - `p`: reads the buffer as a packet. Prints `ANSWER OFFSET` for a refused
-//!   one, answer 5 to 10 and where it broke, else
+//!   one, answer 5 to 10 or 16 and where it broke, else
 //!   `0 SOURCE DESTINATION SPORT DPORT SEQ ACK WINDOW FLAGS OCTETS`, all in
 //!   decimal.
 //! - `r NNNNN`: reads the buffer as a trace line, with an output of that many
@@ -237,7 +238,7 @@ mod tests {
 
     /// Every place where a packet can break is among the expected ones: "with h
     /// the IP header length, 9: h if under 20 bytes follow, else h + 12; 10:
-    /// h + 13".
+    /// h + 13", and "16 [..] offset h + 16".
     #[test]
     fn every_offset_is_expected() {
         let vectors = packets::vectors();
@@ -248,6 +249,7 @@ mod tests {
         for h in (20..=60).step_by(4) {
             assert!(has(format!("9 {h}")), "{h}");
             assert!(has(format!("9 {}", h + 12)), "{h}");
+            assert!(has(format!("16 {}", h + 16)), "{h}");
             assert!(has(format!("10 {}", h + 13)), "{h}");
         }
     }

@@ -1,4 +1,5 @@
 use super::*;
+use crate::checksum::write_tcp_checksum;
 use crate::connection::End;
 use crate::packet::{FIN, RST};
 use crate::table::ENTRY;
@@ -85,6 +86,7 @@ impl Draft {
         packet.extend([0x50, self.flags]);
         packet.extend(self.window.to_be_bytes());
         packet.resize(usize::from(total), 0);
+        write_tcp_checksum(&mut packet);
         packet
     }
 }
@@ -93,8 +95,8 @@ fn fresh(places: usize) -> Vec<u8> {
     vec![0; ENTRY * (places + 1)]
 }
 
-/// The call; a refusal must change no byte, and only answers 5 to 10 have a
-/// place.
+/// The call; a refusal must change no byte, and only answers 5 to 10 and 16 have
+/// a place.
 fn call(side: u32, clock: u64, table: &mut [u8], packet: &[u8]) -> (u32, u32) {
     let before = table.to_vec();
     let (answer, place) = filter(side, clock, table, packet);
@@ -105,7 +107,7 @@ fn call(side: u32, clock: u64, table: &mut [u8], packet: &[u8]) -> (u32, u32) {
         assert_eq!(table::clock(table), clock.max(table::clock(&before)));
         assert!(table::is_sound(table));
     } else {
-        assert_eq!(place != NO_PLACE, (5..=10).contains(&answer));
+        assert_eq!(place != NO_PLACE, matches!(answer, 5..=10 | 16));
         assert_eq!(table, before);
     }
     (answer, place)
@@ -280,13 +282,16 @@ fn the_first_row_wins() {
     unsummed[8] ^= 1;
     unsummed[9] = 17;
     assert_eq!(call(1, 0, &mut [0; 128], &unsummed), (6, 10));
+    let mut changed = syn.clone();
+    changed[35] ^= 1;
+    assert_eq!(call(1, 0, &mut [0; 128], &changed), (16, 36));
     assert_eq!(call(1, 0, &mut [0; 128], &syn), (11, NO_PLACE));
 }
 
-/// "For answers 5 to 10 the place becomes a byte offset", also with longer IP
-/// headers and where the connection is known.
+/// "For answers 5 to 10 the place becomes a byte offset", for 16 too, also with
+/// longer IP headers and where the connection is known.
 #[test]
-fn the_place_of_answers_5_to_10() {
+fn the_place_of_answers_5_to_10_and_16() {
     for h in [20, 24, 60] {
         let packet = with_ip_header(&bytes(EXAMPLE[2].2), h);
         let given = |packet: &[u8]| call(0, 200, &mut state_k(), packet);
@@ -314,8 +319,39 @@ fn the_place_of_answers_5_to_10() {
         assert_eq!(changed(3, h as u8 + 19), (9, past_header(0)));
         assert_eq!(changed(h + 12, 0x40), (9, past_header(12)));
         assert_eq!(changed(h + 12, 0x60), (9, past_header(12)));
+        // The TCP checksum is 913f; one bit of it, of a port or of an address.
+        assert_eq!(changed(h + 17, 0x3e), (16, past_header(16)));
+        assert_eq!(changed(h + 1, 0x01), (16, past_header(16)));
+        assert_eq!(changed(12, 0x0b), (16, past_header(16)));
+        assert_eq!(changed(19, 0x03), (16, past_header(16)));
         for flags in [SYN | FIN, SYN | RST, 0, FIN] {
-            assert_eq!(changed(h + 13, flags), (10, past_header(13)));
+            assert_eq!(changed(h + 13, flags), (16, past_header(16)));
+            let mut packet = packet.clone();
+            packet[h + 13] = flags;
+            write_tcp_checksum(&mut packet);
+            assert_eq!(given(&packet), (10, past_header(13)));
+        }
+    }
+}
+
+/// "Receivers drop such segments, yet our table learns from them": what would
+/// pass is refused, and `call` finds the table as it was.
+#[test]
+fn a_wrong_tcp_checksum_teaches_nothing() {
+    let packets = [
+        (0, draft(ACK, 101, 0, 501).opener_packet()),
+        (0, draft(ACK | FIN, 101, 7, 501).opener_packet()),
+        (0, draft(RST, 101, 0, 0).opener_packet()),
+        (1, draft(ACK, 501, 0, 101).answerer_packet()),
+        (0, draft(SYN, 7, 0, 0).packet((1, 2), (3, 4))),
+    ];
+    for (side, packet) in packets {
+        assert_eq!(call(side, 200, &mut state_k(), &packet).0, 0);
+        for at in (12..32).chain(33..packet.len()) {
+            let mut packet = packet.clone();
+            packet[at] ^= 0x10;
+            write_sum(&mut packet);
+            assert_eq!(call(side, 200, &mut state_k(), &packet), (16, 36));
         }
     }
 }

@@ -29,6 +29,7 @@ fn applies(fault: Fault, packet: &[u8]) -> bool {
         Fault::Under20Follow => segment().len() < 20,
         Fault::DataOffsetUnder5 => data_offset() < 20,
         Fault::DataOffsetPastTotal => data_offset() > segment().len(),
+        Fault::TcpSum => tcp_sum(packet, segment()) % 0xffff != 0,
         Fault::SynFin => has(SYN) && has(FIN),
         Fault::SynRst => has(SYN) && has(RST),
         Fault::NoneOfThree => !has(SYN | ACK | RST),
@@ -36,12 +37,23 @@ fn applies(fault: Fault, packet: &[u8]) -> bool {
     }
 }
 
+/// The plain sum over the pseudo-header and the segment. It is not 0, as the
+/// protocol is 6: its carries added, it is ffff if it is a multiple of that.
+fn tcp_sum(packet: &[u8], segment: &[u8]) -> usize {
+    let words = |octets: &[u8]| -> usize {
+        let high = octets.iter().step_by(2).map(|&octet| usize::from(octet));
+        let low = octets.iter().skip(1).step_by(2);
+        256 * high.sum::<usize>() + low.map(|&octet| usize::from(octet)).sum::<usize>()
+    };
+    words(&packet[12..20]) + 6 + segment.len() + words(segment)
+}
+
 fn header_length(packet: &[u8]) -> usize {
     4 * usize::from(packet[0] & 0x0f)
 }
 
 /// The answer and the place that the packet gets for the cause (document 02,
-/// item 2).
+/// items 2 and 5).
 pub fn refusal(cause: Fault, packet: &[u8]) -> (u32, u32) {
     let h = || header_length(packet) as u32;
     match cause {
@@ -52,6 +64,7 @@ pub fn refusal(cause: Fault, packet: &[u8]) -> (u32, u32) {
         Fault::Protocol => (8, 9),
         Fault::Under20Follow => (9, h()),
         Fault::DataOffsetUnder5 | Fault::DataOffsetPastTotal => (9, h() + 12),
+        Fault::TcpSum => (16, h() + 16),
         Fault::SynFin | Fault::SynRst | Fault::NoneOfThree | Fault::SynWithPayload => {
             (10, h() + 13)
         }
@@ -74,7 +87,7 @@ impl Seen {
         self.counts[cause as usize][usize::from(long)] += 1;
     }
 
-    /// Every cause occurred so often, and those of answers 9 and 10, whose
+    /// Every cause occurred so often, and those of answers 9, 16 and 10, whose
     /// offset follows from the header's length, did with a longer header alone.
     pub fn check(&self, least: u32) {
         for cause in FAULTS {

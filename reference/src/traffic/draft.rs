@@ -1,8 +1,9 @@
 //! Writes packets, well formed or spoilt in one of the ways that answers 5 to
-//! 10 refuse.
+//! 10 and 16 refuse.
 
 use super::random::Random;
-use crate::checksum::ones_complement_sum;
+use super::tcp_sums::{spoil_tcp_sum, zero_tcp_checksum};
+use crate::checksum::{ones_complement_sum, write_tcp_checksum};
 use crate::packet::{ACK, FIN, RST, SYN};
 use crate::table::Names;
 use crate::trace::LONGEST_PACKET;
@@ -28,7 +29,7 @@ pub struct Draft {
 
 impl Draft {
     /// A well-formed packet. What the filter must skip or ignore is random:
-    /// options, payload, checksum of the segment, bytes past total length.
+    /// options, payload, urgent pointer, bytes past total length.
     pub fn packet(&self, random: &mut Random) -> Vec<u8> {
         let ip_words = words(random);
         self.packet_with_header(ip_words, random)
@@ -52,7 +53,11 @@ impl Draft {
         self.write_ip_header(&mut packet, ip_words, total, random);
         self.write_tcp_header(&mut packet, tcp_words, random);
         fill(&mut packet, total, random);
-        write_checksum(&mut packet, random);
+        write_ip_checksum(&mut packet, random);
+        write_tcp_checksum(&mut packet);
+        if random.once_in(50) {
+            zero_tcp_checksum(&mut packet, random);
+        }
         if random.once_in(20) {
             let padding = random.index(20);
             fill(&mut packet, total + padding, random);
@@ -111,7 +116,7 @@ fn words(random: &mut Random) -> usize {
 }
 
 /// Appends random bytes up to the length.
-fn fill(packet: &mut Vec<u8>, length: usize, random: &mut Random) {
+pub fn fill(packet: &mut Vec<u8>, length: usize, random: &mut Random) {
     while packet.len() < length {
         let room = (length - packet.len()).min(8);
         packet.extend_from_slice(&random.next().to_be_bytes()[..room]);
@@ -119,7 +124,7 @@ fn fill(packet: &mut Vec<u8>, length: usize, random: &mut Random) {
 }
 
 /// Makes the sum of the IP header ffff, if the packet has all of one.
-fn write_checksum(packet: &mut [u8], random: &mut Random) {
+pub fn write_ip_checksum(packet: &mut [u8], random: &mut Random) {
     let length = packet
         .first()
         .map_or(0, |first| 4 * usize::from(first & 0x0f));
@@ -135,7 +140,8 @@ fn write_checksum(packet: &mut [u8], random: &mut Random) {
     packet[10..12].copy_from_slice(&checksum.to_be_bytes());
 }
 
-/// The causes of answers 5 to 10, row by row.
+/// The causes of answers 5 to 10 and 16, row by row: "16 [..], after 9 and
+/// before 10".
 #[derive(Clone, Copy, Debug, PartialEq, Eq)]
 pub enum Fault {
     Under20Bytes,
@@ -150,13 +156,14 @@ pub enum Fault {
     Under20Follow,
     DataOffsetUnder5,
     DataOffsetPastTotal,
+    TcpSum,
     SynFin,
     SynRst,
     NoneOfThree,
     SynWithPayload,
 }
 
-pub const FAULTS: [Fault; 16] = [
+pub const FAULTS: [Fault; 17] = [
     Fault::Under20Bytes,
     Fault::Version,
     Fault::HeaderUnder20,
@@ -169,6 +176,7 @@ pub const FAULTS: [Fault; 16] = [
     Fault::Under20Follow,
     Fault::DataOffsetUnder5,
     Fault::DataOffsetPastTotal,
+    Fault::TcpSum,
     Fault::SynFin,
     Fault::SynRst,
     Fault::NoneOfThree,
@@ -214,7 +222,7 @@ fn spoil_by(packet: &mut Vec<u8>, fault: Fault, random: &mut Random) {
             };
             write_total(packet, total.min(65_535));
         }
-        Fault::Sum => {}
+        Fault::Sum | Fault::TcpSum => {}
         Fault::MoreFragments => packet[6] |= 0x20,
         Fault::FragmentOffset => {
             let offset = 1u16 << random.below(13);
@@ -228,10 +236,19 @@ fn spoil_by(packet: &mut Vec<u8>, fault: Fault, random: &mut Random) {
         }
         _ => spoil_tcp(packet, header, total, fault, random),
     }
-    write_checksum(packet, random);
-    if fault == Fault::Sum {
-        let at = random.index(packet.len().min(20));
-        packet[at] ^= 1 << random.below(8);
+    write_ip_checksum(packet, random);
+    // Row 10 is reached where the TCP checksum follows the change, and the order
+    // of 9, 16 and 10 decides where it does not.
+    if fault == Fault::TcpSum || !random.once_in(5) {
+        write_tcp_checksum(packet);
+    }
+    match fault {
+        Fault::Sum => {
+            let at = random.index(packet.len().min(20));
+            packet[at] ^= 1 << random.below(8);
+        }
+        Fault::TcpSum => spoil_tcp_sum(packet, random),
+        _ => {}
     }
 }
 
@@ -296,9 +313,11 @@ mod tests {
         }
     }
 
+    /// Either zero stands in the TCP checksum's field now and then.
     #[test]
     fn a_draft_reads_back() {
         let mut random = Random::new(1);
+        let mut zeros = [0; 2];
         for _ in 0..5_000 {
             let draft = draft(&mut random);
             let expected = Segment {
@@ -312,13 +331,22 @@ mod tests {
                 flags: draft.flags,
                 octets: draft.payload as u32 + u32::from(draft.flags & FIN),
             };
-            assert_eq!(read(&draft.packet(&mut random)), Ok(expected));
+            let packet = draft.packet(&mut random);
+            assert_eq!(read(&packet), Ok(expected));
+            let field = 4 * usize::from(packet[0] & 0x0f) + 16;
+            match packet[field..field + 2] {
+                [0x00, 0x00] => zeros[0] += 1,
+                [0xff, 0xff] => zeros[1] += 1,
+                _ => {}
+            }
         }
+        assert!(zeros.iter().all(|&count| count > 20), "{zeros:?}");
     }
 
     #[test]
     fn a_fault_gives_its_row() {
         let mut random = Random::new(2);
+        let mut unmended = 0;
         for _ in 0..500 {
             for fault in FAULTS {
                 let draft = Draft {
@@ -332,14 +360,24 @@ mod tests {
                     .map(|refusal| (refusal.answer, refusal.offset));
                 let cause = first_cause(&packet);
                 assert_eq!(refused, cause.map(|cause| refusal(cause, &packet)));
-                // Some leave the packet whole by chance, or hit another field.
+                // Some leave the packet whole by chance, or hit another field;
+                // the TCP sum may not have followed.
                 let allowed = match fault {
                     Fault::Sum => matches!(refused, Some((5 | 6, _))),
-                    Fault::DataOffsetPastTotal => cause.is_none_or(|cause| cause == fault),
+                    Fault::TcpSum => matches!(refused, Some((9 | 16, _))),
+                    Fault::DataOffsetPastTotal => {
+                        cause.is_none_or(|cause| cause == fault || cause == Fault::TcpSum)
+                    }
+                    Fault::SynFin | Fault::SynRst | Fault::NoneOfThree | Fault::SynWithPayload => {
+                        unmended += u32::from(cause == Some(Fault::TcpSum));
+                        cause == Some(fault) || cause == Some(Fault::TcpSum)
+                    }
                     _ => cause == Some(fault),
                 };
                 assert!(allowed, "{fault:?} {cause:?}");
             }
         }
+        // Of the 500 rounds' four causes of row 10.
+        assert!((250..600).contains(&unmended), "{unmended}");
     }
 }

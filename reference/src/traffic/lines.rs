@@ -158,7 +158,7 @@ mod tests {
         for line in lines(1, 40_000) {
             counts[run.line(&line).answer as usize] += 1;
         }
-        for answer in (5..=15).chain([0, 21, 22]) {
+        for answer in (5..=16).chain([0, 21, 22]) {
             assert!(counts[answer] >= 20, "{answer}: {counts:?}");
         }
     }
@@ -170,9 +170,9 @@ mod tests {
         let mut packet = [0; LONGEST_PACKET];
         for line in lines(1, 20_000) {
             let given = run.line(&line);
-            if (5..=10).contains(&given.answer) {
+            if matches!(given.answer, 5..=10 | 16) {
                 let length = read_line(&line, &mut packet).length;
-                let place = given.number.expect("answers 5 to 10 have a place");
+                let place = given.number.expect("answers 5 to 10 and 16 have a place");
                 seen.refused(&packet[..length], (given.answer, place));
             }
         }

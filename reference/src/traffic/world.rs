@@ -1,12 +1,13 @@
 //! Traffic over one table, fresh or filled at first: honest connections, and
-//! between them probes at the bounds, spoilt packets, floods, strangers and
-//! resets. The table is kept as this library's filter leaves it, so that the
-//! next packets can be aimed.
+//! between them probes at the bounds, spoilt and damaged packets, floods,
+//! strangers and resets. The table is kept as this library's filter leaves it,
+//! so that the next packets can be aimed.
 
 use super::draft::{spoil, Draft};
 use super::honest::Link;
 use super::random::Random;
 use super::tables::{fill, vacate};
+use super::tcp_sums::spoil_tcp_sum;
 use crate::connection::{Connection, ANSWERER, OPENER};
 use crate::filter::{filter, PASSED};
 use crate::packet::{ACK, FIN, RST, SYN};
@@ -112,10 +113,11 @@ impl World {
             match self.random.below(1_000) {
                 0..=139 => self.bound_probe(),
                 140..=169 => self.stage_1_probe(),
-                170..=209 => self.spoilt(),
-                210..=259 => self.stranger(),
-                260..=269 => self.reset(),
-                270..=273 => self.expiry_probe(),
+                170..=217 => self.spoilt(),
+                218..=267 => self.stranger(),
+                268..=277 => self.reset(),
+                278..=281 => self.expiry_probe(),
+                282..=285 => self.damaged(),
                 _ => None,
             }
         };
@@ -490,7 +492,20 @@ impl World {
         self.call_clock()
     }
 
-    /// A packet that answers 5 to 10 refuse, mostly of a live connection.
+    /// What may pass but for its TCP checksum: "Receivers drop such segments, yet
+    /// our table learns from them."
+    fn damaged(&mut self) -> Option<Arrival> {
+        let mut arrival = match self.random.below(6) {
+            0 => self.stage_1_probe(),
+            1 => self.reset(),
+            2 => self.flood_arrival(),
+            _ => self.bound_probe(),
+        }?;
+        spoil_tcp_sum(&mut arrival.packet, &mut self.random);
+        Some(arrival)
+    }
+
+    /// A packet that answers 5 to 10 or 16 refuse, mostly of a live connection.
     fn spoilt(&mut self) -> Option<Arrival> {
         let names = match self.live_entry(|_| true) {
             Some(entry) if !self.random.once_in(4) => entry.names,

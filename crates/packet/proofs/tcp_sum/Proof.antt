@@ -6,7 +6,7 @@ use native.Mathlib.Omega.{arith}
 use lib.ListN.{length}
 use Rattle.checksum.specs.Sum.{onesSum}
 use Rattle.checksum.specs.Reduced.{reduced}
-use Rattle.packet.specs.TcpSum.{segmentOctets}
+use Rattle.packet.specs.TcpSum.{segmentOctets, pseudoFields}
 use borrow.Author.Needs.{needs}
 use Rattle.packet.proofs.tcp_sum.Statement.{statement}
 use Rattle.packet.proofs.tcp_sum.Tie as tie
@@ -53,8 +53,14 @@ summed c =
     let k = c .before .before in
     from-to (a .s .now) (a .h) (a .t) (part-ones-sum-start k) (part-ones-sum-end k) (c .ones-sum .ensures) (omega arith) (omega arith)
 
+-- the length in the pseudo-header is the segment's
+fields :
+    (c : tie.After-pseudo-fields) →
+    let a = c .before .before .args in c .pseudo-fields .result ≡ pseudoFields (a .flow) (a .t - a .h)
+fields c = c .pseudo-fields .ensures .0 ∙ ap (pseudoFields (c .before .before .args .flow)) (omega arith)
+
 returns : tie.Need-returns
-returns c = c .carries-added .ensures ∙ ap reduced (omega (arith, summed (c .before)))
+returns c = c .carries-added .ensures ∙ ap reduced (omega (arith, fields (c .before .before .before), summed (c .before)))
 
 pub tcp-sum-spec : {M : Type 1} → statement M
 tcp-sum-spec =

@@ -4,59 +4,63 @@
 
 use super::{base, with_header_length, Packet, Table, ACK, FIN, PSH, RST, SYN, URG};
 
-/// An IP header length, in words, and what answers 9 and 10 give after it.
-struct Header {
-    words: usize,
+/// An IP header length, in words, and what answers 9, 16 and 10 give after it.
+pub struct Header {
+    pub words: usize,
     /// "9: h if under 20 bytes follow"
-    short: &'static str,
+    pub short: &'static str,
     /// "else h + 12"
-    data_offset: &'static str,
+    pub data_offset: &'static str,
+    /// "16 where the whole sum isn't ffff, [..] offset h + 16"
+    pub tcp_sum: &'static str,
     /// "10: h + 13"
-    flags: &'static str,
+    pub flags: &'static str,
 }
 
 const fn header(
     words: usize,
     short: &'static str,
     data_offset: &'static str,
+    tcp_sum: &'static str,
     flags: &'static str,
 ) -> Header {
     Header {
         words,
         short,
         data_offset,
+        tcp_sum,
         flags,
     }
 }
 
 /// From 20 to 60 bytes.
-const HEADERS: [Header; 11] = [
-    header(5, "9 20", "9 32", "10 33"),
-    header(6, "9 24", "9 36", "10 37"),
-    header(7, "9 28", "9 40", "10 41"),
-    header(8, "9 32", "9 44", "10 45"),
-    header(9, "9 36", "9 48", "10 49"),
-    header(10, "9 40", "9 52", "10 53"),
-    header(11, "9 44", "9 56", "10 57"),
-    header(12, "9 48", "9 60", "10 61"),
-    header(13, "9 52", "9 64", "10 65"),
-    header(14, "9 56", "9 68", "10 69"),
-    header(15, "9 60", "9 72", "10 73"),
+pub const HEADERS: [Header; 11] = [
+    header(5, "9 20", "9 32", "16 36", "10 33"),
+    header(6, "9 24", "9 36", "16 40", "10 37"),
+    header(7, "9 28", "9 40", "16 44", "10 41"),
+    header(8, "9 32", "9 44", "16 48", "10 45"),
+    header(9, "9 36", "9 48", "16 52", "10 49"),
+    header(10, "9 40", "9 52", "16 56", "10 53"),
+    header(11, "9 44", "9 56", "16 60", "10 57"),
+    header(12, "9 48", "9 60", "16 64", "10 61"),
+    header(13, "9 52", "9 64", "16 68", "10 65"),
+    header(14, "9 56", "9 68", "16 72", "10 69"),
+    header(15, "9 60", "9 72", "16 76", "10 73"),
 ];
 
 impl Header {
     /// In bytes.
-    fn length(&self) -> usize {
+    pub fn length(&self) -> usize {
         4 * self.words
     }
 
     /// The base packet with options that fill this header.
-    fn packet(&self) -> Packet {
+    pub fn packet(&self) -> Packet {
         with_header_length(self.words)
     }
 
     /// The same with payload.
-    fn with_payload(&self, octets: usize) -> Packet {
+    pub fn with_payload(&self, octets: usize) -> Packet {
         Packet::new(&self.options(), &[], &vec![0xa5; octets])
     }
 
@@ -65,13 +69,13 @@ impl Header {
         Packet::new(&self.options(), &[0x01; 40], &vec![0xa5; octets])
     }
 
-    fn options(&self) -> Vec<u8> {
+    pub fn options(&self) -> Vec<u8> {
         vec![0x01; self.length() - 20]
     }
 
     /// All bytes given, but total length leaves no more than these after the
     /// header.
-    fn followed_by(&self, bytes: usize) -> Packet {
+    pub fn followed_by(&self, bytes: usize) -> Packet {
         self.packet().total_length((self.length() + bytes) as u16)
     }
 }
@@ -379,9 +383,9 @@ fn as_it_is(packet: Packet) -> Packet {
     packet
 }
 
-/// In document 01's order, for packets of 24 or 60 bytes of IP header, 20 of TCP
-/// header and one of payload.
-const CAUSES: [Cause; 16] = [
+/// In document 01's order, with "16 [..], after 9 and before 10", for packets of
+/// 24 or 60 bytes of IP header, 20 of TCP header and one of payload.
+const CAUSES: [Cause; 17] = [
     Cause {
         name: "19 bytes",
         fields: &["data offset", "flags"],
@@ -480,6 +484,13 @@ const CAUSES: [Cause; 16] = [
         change: |packet| packet.tcp(12, &[0x60]),
         finish: as_it_is,
         expected: ["9 36", "9 72"],
+    },
+    Cause {
+        name: "TCP sum one up",
+        fields: &[],
+        change: |packet| packet.fix_tcp().tcp_checksum_plus(1),
+        finish: as_it_is,
+        expected: ["16 40", "16 76"],
     },
     Cause {
         name: "SYN with FIN",

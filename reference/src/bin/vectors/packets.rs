@@ -1,11 +1,13 @@
 //! Vectors of the packet reader, by the rows of document 01's table. A refusal
 //! is the answer and the offset of document 02, item 2: "5: 0 for the first
 //! three causes, 2 for total length; 6: 10; 7: 6; 8: 9; with h the IP header
-//! length, 9: h if under 20 bytes follow, else h + 12; 10: h + 13."
+//! length, 9: h if under 20 bytes follow, else h + 12; 10: h + 13.", and item 5:
+//! "16 where the whole sum isn't ffff, after 9 and before 10, offset h + 16".
 
 use crate::{Call, Vector};
 
 mod offsets;
+mod tcp_sums;
 
 /// What the base packet gives, without flags and octets.
 const BASE_FIELDS: &str = "0 3221225985 3325256711 4660 22136 2596069104 324508639 9320";
@@ -20,7 +22,7 @@ const IP_HEADER: [u8; 20] = [
 ];
 
 /// Port 1234 to 5678 (hex), sequence 9abcdef0, acknowledgement 13579bdf, data
-/// offset 5, ACK, window 2468, no checksum.
+/// offset 5, ACK, window 2468, no checksum yet.
 const TCP_HEADER: [u8; 20] = [
     0x12, 0x34, 0x56, 0x78, 0x9a, 0xbc, 0xde, 0xf0, 0x13, 0x57, 0x9b, 0xdf, 0x50, 0x10, 0x24, 0x68,
     0x00, 0x00, 0x00, 0x00,
@@ -70,6 +72,41 @@ impl Packet {
         let checksum = 0xffff - (sum % 0xffff) as u16;
         packet.0[10..12].copy_from_slice(&checksum.to_be_bytes());
         packet
+    }
+
+    /// Makes the TCP checksum right for the header length and the total length
+    /// that the packet states. The words are those of both addresses, 0006 for
+    /// zero and protocol, the TCP length, and those of the segment with a
+    /// checksum of 0000; an odd last octet is the high one of a word. What is
+    /// missing to a multiple of ffff is the checksum. That of the base packet is
+    /// worked out by hand with the vectors of the TCP sum.
+    fn fix_tcp(self) -> Packet {
+        let start = self.header_length();
+        let end = usize::from(u16::from_be_bytes([self.0[2], self.0[3]]));
+        let packet = self.tcp_checksum(0x0000);
+        let words = |bytes: &[u8]| -> u32 {
+            let octets = bytes.iter().map(|&octet| u32::from(octet));
+            let weights = [256, 1].into_iter().cycle();
+            octets
+                .zip(weights)
+                .map(|(octet, weight)| octet * weight)
+                .sum()
+        };
+        let tcp_length = (end - start) as u32;
+        let sum = words(&packet.0[12..20]) + 0x0006 + tcp_length + words(&packet.0[start..end]);
+        packet.tcp_checksum(0xffff - (sum % 0xffff) as u16)
+    }
+
+    /// Writes a TCP checksum.
+    fn tcp_checksum(self, checksum: u16) -> Packet {
+        self.tcp(16, &checksum.to_be_bytes())
+    }
+
+    /// Adds to the TCP checksum.
+    fn tcp_checksum_plus(self, difference: u16) -> Packet {
+        let at = self.header_length() + 16;
+        let checksum = u16::from_be_bytes([self.0[at], self.0[at + 1]]);
+        self.tcp_checksum(checksum.wrapping_add(difference))
     }
 
     /// Adds to the header checksum.
@@ -128,7 +165,22 @@ fn passed(flags: u8, octets: u32) -> String {
 struct Table(Vec<Vector>);
 
 impl Table {
+    /// A packet that must come to row 10 or pass it gets a right TCP checksum;
+    /// one that is refused before stays as it is.
     fn add(&mut self, label: impl AsRef<str>, packet: Packet, expected: impl Into<String>) {
+        let expected = expected.into();
+        let passes_16 = expected.starts_with("10 ") || expected.starts_with("0 ");
+        let packet = if passes_16 { packet.fix_tcp() } else { packet };
+        self.add_as_it_is(label, packet, expected);
+    }
+
+    /// The TCP checksum is what the packet says.
+    fn add_as_it_is(
+        &mut self,
+        label: impl AsRef<str>,
+        packet: Packet,
+        expected: impl Into<String>,
+    ) {
         self.0.push(Vector {
             label: format!("packet: {}", label.as_ref()),
             buffer: packet.0,
@@ -159,43 +211,47 @@ pub fn vectors() -> Vec<Vector> {
     field_values(&mut table);
     fields_that_no_rule_names(&mut table);
     offsets::add(&mut table);
+    tcp_sums::add(&mut table);
     table.0
 }
 
-/// The three packets of document 01's example trace.
-fn document_examples(table: &mut Table) {
-    let addresses_and_ports = [
-        0x45, 0x00, 0x00, 0x28, 0x00, 0x00, 0x00, 0x00, 0x40, 0x06, 0x66, 0xce, 0x0a, 0x00, 0x00,
-        0x01, 0x0a, 0x00, 0x00, 0x02, 0x04, 0x00, 0x00, 0x50,
-    ];
-    let first = [
-        0x00, 0x00, 0x00, 0x64, 0x00, 0x00, 0x00, 0x00, 0x50, 0x02, 0x03, 0xe8, 0x93, 0x44, 0x00,
-        0x00,
-    ];
-    table.add(
+/// The three packets of document 01's example trace and what they give. Their
+/// TCP checksums are right: with the pseudo-headers, which come to 141d, each
+/// segment comes to ffff.
+const DOCUMENT_EXAMPLES: [(&str, [u8; 40], &str); 3] = [
+    (
         "document example 1",
-        Packet([&addresses_and_ports[..], &first].concat()),
+        [
+            0x45, 0x00, 0x00, 0x28, 0x00, 0x00, 0x00, 0x00, 0x40, 0x06, 0x66, 0xce, 0x0a, 0x00,
+            0x00, 0x01, 0x0a, 0x00, 0x00, 0x02, 0x04, 0x00, 0x00, 0x50, 0x00, 0x00, 0x00, 0x64,
+            0x00, 0x00, 0x00, 0x00, 0x50, 0x02, 0x03, 0xe8, 0x93, 0x44, 0x00, 0x00,
+        ],
         "0 167772161 167772162 1024 80 100 0 1000 2 1",
-    );
-    let second = [
-        0x45, 0x00, 0x00, 0x28, 0x00, 0x00, 0x00, 0x00, 0x40, 0x06, 0x66, 0xce, 0x0a, 0x00, 0x00,
-        0x02, 0x0a, 0x00, 0x00, 0x01, 0x00, 0x50, 0x04, 0x00, 0x00, 0x00, 0x01, 0xf4, 0x00, 0x00,
-        0x00, 0x65, 0x50, 0x12, 0x07, 0xd0, 0x8d, 0x57, 0x00, 0x00,
-    ];
-    table.add(
+    ),
+    (
         "document example 2",
-        Packet(second.to_vec()),
+        [
+            0x45, 0x00, 0x00, 0x28, 0x00, 0x00, 0x00, 0x00, 0x40, 0x06, 0x66, 0xce, 0x0a, 0x00,
+            0x00, 0x02, 0x0a, 0x00, 0x00, 0x01, 0x00, 0x50, 0x04, 0x00, 0x00, 0x00, 0x01, 0xf4,
+            0x00, 0x00, 0x00, 0x65, 0x50, 0x12, 0x07, 0xd0, 0x8d, 0x57, 0x00, 0x00,
+        ],
         "0 167772162 167772161 80 1024 500 101 2000 18 1",
-    );
-    let third = [
-        0x00, 0x00, 0x00, 0x65, 0x00, 0x00, 0x01, 0xf6, 0x50, 0x10, 0x03, 0xe8, 0x91, 0x3f, 0x00,
-        0x00,
-    ];
-    table.add(
+    ),
+    (
         "document example 3",
-        Packet([&addresses_and_ports[..], &third].concat()),
+        [
+            0x45, 0x00, 0x00, 0x28, 0x00, 0x00, 0x00, 0x00, 0x40, 0x06, 0x66, 0xce, 0x0a, 0x00,
+            0x00, 0x01, 0x0a, 0x00, 0x00, 0x02, 0x04, 0x00, 0x00, 0x50, 0x00, 0x00, 0x00, 0x65,
+            0x00, 0x00, 0x01, 0xf6, 0x50, 0x10, 0x03, 0xe8, 0x91, 0x3f, 0x00, 0x00,
+        ],
         "0 167772161 167772162 1024 80 101 502 1000 16 0",
-    );
+    ),
+];
+
+fn document_examples(table: &mut Table) {
+    for (name, bytes, expected) in DOCUMENT_EXAMPLES {
+        table.add_as_it_is(name, Packet(bytes.to_vec()), expected);
+    }
 }
 
 /// Answer 5, "under 20 bytes".
@@ -1235,7 +1291,7 @@ fn field_values(table: &mut Table) {
     }
 }
 
-/// Fields of both headers that answers 5 to 10 do not look at.
+/// Fields of both headers that no row looks at, beside the sums.
 fn fields_that_no_rule_names(table: &mut Table) {
     for (label, packet) in [
         ("type of service ff", base().put(1, &[0xff]).fix()),
@@ -1243,7 +1299,6 @@ fn fields_that_no_rule_names(table: &mut Table) {
         ("identification ffff", base().put(4, &[0xff, 0xff]).fix()),
         ("time to live 0", base().put(8, &[0x00]).fix()),
         ("time to live 255", base().put(8, &[0xff]).fix()),
-        ("TCP checksum ffff", base().put(36, &[0xff, 0xff])),
         ("urgent pointer ffff", base().put(38, &[0xff, 0xff])),
         (
             "TCP options 00",

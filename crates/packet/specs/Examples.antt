@@ -1,0 +1,48 @@
+-- Packets for examples, and what row 16 says of some: each of those refused has the sum that a reader with one word of the rule wrong would take.
+use Prim.Native.Nat.{ℕ}
+use mathlib.Core.Path.{_≡_}
+use mathlib.Core.List.{List, [], _∷_, _++_}
+use lib.ListN.{replicate}
+use Rattle.packet.specs.Read.{readIPv4, answerAndOffset}
+
+-- 20 bytes of IPv4 header, the first with version and header length, from 10.0.0.from to 10.0.0.to, before the rest; 20 bytes of TCP. Each has the
+-- two bytes of its checksum
+abbrev pub ipv4 : (first length fragment protocol sum sum' from to : ℕ) → List ℕ → List ℕ
+ipv4 first length fragment protocol sum sum' from to rest =
+    first ∷ 0 ∷ 0 ∷ length
+    ∷ 0 ∷ 0 ∷ fragment ∷ 0
+    ∷ 64 ∷ protocol ∷ sum ∷ sum'
+    ∷ 10 ∷ 0 ∷ 0 ∷ from
+    ∷ 10 ∷ 0 ∷ 0 ∷ to
+    ∷ rest
+
+abbrev pub tcp : (dataOffsetByte flags sum sum' : ℕ) → List ℕ
+tcp dataOffsetByte flags sum sum' = replicate 12 0 ++ (dataOffsetByte ∷ flags ∷ 0 ∷ 0 ∷ sum ∷ sum' ∷ 0 ∷ 0 ∷ [])
+
+-- an ACK with one payload octet, 41, and total length 41; a byte ff follows
+abbrev odd : (sum sum' : ℕ) → List ℕ
+odd sum sum' = ipv4 0x45 41 0 6 0x66 0xcd 1 2 (tcp 80 16 sum sum' ++ (0x41 ∷ 0xff ∷ []))
+
+-- an ACK with two payload octets, which alone bring the sum to ffff
+abbrev even : (sum sum' : ℕ) → List ℕ
+even sum sum' = ipv4 0x45 42 0 6 0x66 0xcc 1 2 (tcp 80 16 sum sum' ++ (0x9b ∷ 0xd0 ∷ []))
+
+abbrev reads : List ℕ → ℕ × ℕ
+reads p = answerAndOffset (readIPv4 p)
+
+pub record RowSixteen : Type 0 where
+  -- the right sum; the octet that follows taken for the padding; the padding before the octet
+  pub padded : reads (odd 0x5a 0xd1) ≡ (0, 0)
+  pub past-total : reads (odd 0x59 0xd2) ≡ (16, 36)
+  pub padded-before : reads (odd 0x9b 0x90) ≡ (16, 36)
+  -- total length for TCP length; no protocol; the pseudo-header behind the segment
+  pub total-length : reads (odd 0x5a 0xbd) ≡ (16, 36)
+  pub no-protocol : reads (odd 0x5a 0xd7) ≡ (16, 36)
+  pub behind : reads (odd 0x50 0xdb) ≡ (16, 36)
+  -- a field of 0, or of ffff, is one like any other
+  pub zero-wrong : reads (odd 0 0) ≡ (16, 36)
+  pub zero-right : reads (even 0 0) ≡ (0, 0)
+  pub ones-right : reads (even 0xff 0xff) ≡ (0, 0)
+  -- a wrong sum with a data offset of 4 words, and with none of SYN, ACK and RST: after 9 and before 10
+  pub after-9 : reads (ipv4 0x45 40 0 6 0x66 0xce 1 2 (tcp 64 16 0 0)) ≡ (9, 32)
+  pub before-10 : reads (ipv4 0x45 40 0 6 0x66 0xce 1 2 (tcp 80 0 0 0)) ≡ (16, 36)
