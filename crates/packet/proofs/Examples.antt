@@ -22,4 +22,5 @@ row-sixteen = record {
   ones-right = refl;
   after-9 = refl;
   before-10 = refl;
+  over-ipv6 = refl;
 }

@@ -3,6 +3,10 @@ use Prim.Native.Nat.{ℕ}
 use mathlib.Core.Path.{_≡_}
 use mathlib.Core.List.{List, [], _∷_, _++_}
 use lib.ListN.{replicate}
+use Rattle.address.specs.Flows.{endpoint, between}
+use Rattle.address.specs.declared.Flow.{Flow}
+use Rattle.address.specs.declared.Version.the-variants.{V6}
+use Rattle.packet.specs.TcpSum.{tcpSum}
 use Rattle.packet.specs.Read.{readIPv4, answerAndOffset}
 
 -- 20 bytes of IPv4 header, the first with version and header length, from 10.0.0.from to 10.0.0.to, before the rest; 20 bytes of TCP. Each has the
@@ -19,13 +23,17 @@ ipv4 first length fragment protocol sum sum' from to rest =
 abbrev pub tcp : (dataOffsetByte flags sum sum' : ℕ) → List ℕ
 tcp dataOffsetByte flags sum sum' = replicate 12 0 ++ (dataOffsetByte ∷ flags ∷ 0 ∷ 0 ∷ sum ∷ sum' ∷ 0 ∷ 0 ∷ [])
 
--- an ACK with one payload octet, 41, and total length 41; a byte ff follows
+-- an ACK with one payload octet, 0x41, which makes a total length of 41; a byte 0xff follows
 abbrev odd : (sum sum' : ℕ) → List ℕ
 odd sum sum' = ipv4 0x45 41 0 6 0x66 0xcd 1 2 (tcp 80 16 sum sum' ++ (0x41 ∷ 0xff ∷ []))
 
--- an ACK with two payload octets, which alone bring the sum to ffff
+-- an ACK with two payload octets, which bring the sum to ffff by themselves
 abbrev even : (sum sum' : ℕ) → List ℕ
 even sum sum' = ipv4 0x45 42 0 6 0x66 0xcc 1 2 (tcp 80 16 sum sum' ++ (0x9b ∷ 0xd0 ∷ []))
+
+-- from 2001:db8::1 to 2001:db8::2, the segment of `odd`
+abbrev overIPv6 : Flow
+overIPv6 = between (endpoint (record { high = 0x20010db800000000; low = 1 }) 0) (endpoint (record { high = 0x20010db800000000; low = 2 }) 0)
 
 abbrev reads : List ℕ → ℕ × ℕ
 reads p = answerAndOffset (readIPv4 p)
@@ -46,3 +54,5 @@ pub record RowSixteen : Type 0 where
   -- a wrong sum with a data offset of 4 words, and with none of SYN, ACK and RST: after 9 and before 10
   pub after-9 : reads (ipv4 0x45 40 0 6 0x66 0xce 1 2 (tcp 64 16 0 0)) ≡ (9, 32)
   pub before-10 : reads (ipv4 0x45 40 0 6 0x66 0xce 1 2 (tcp 80 0 0 0)) ≡ (16, 36)
+  -- a right sum over IPv6, of the segment alone
+  pub over-ipv6 : tcpSum V6 overIPv6 (tcp 80 16 0x13 0x5f ++ (0x41 ∷ [])) 0 21 ≡ 0xffff
