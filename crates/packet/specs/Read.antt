@@ -155,11 +155,11 @@ onHeader v addresses p (CarriesTcp h t) = tcpRows v addresses p h t
 abbrev pub readIPv4 : List ℕ → PacketRead
 readIPv4 p = onHeader V4 ipv4Addresses p (ipv4Header p)
 
--- what is carried lies behind the addresses, within 60 bytes, and in the packet, with at most 65,535 octets after the IP header
+-- what is carried lies behind the addresses and in the packet, with at most 65,535 octets after the IP header
 abbrev pub Inside : Version → ℕ → List ℕ → IpRead → Type 0
 Inside v addresses p (BadHeader cause offset) = Unit {0}
 Inside v addresses p (CarriesTcp h t) =
-    (addresses + addressSize v + addressSize v ≤ h) × (h ≤ 60) × (h ≤ t) × (t ≤ length p) × (t - h < 2 ^ 16)
+    (addresses + addressSize v + addressSize v ≤ h) × (h ≤ t) × (t ≤ length p) × (t - h < 2 ^ 16)
 
 -- the documents' answer and offset of a refusal; 0 and 0 where there is none
 abbrev pub answerAndOffset : PacketRead → ℕ × ℕ

@@ -3,12 +3,10 @@
 ghost use mathlib.Core.Path.{_≡_};
 ghost use Prim.Native.Nat.{_+_, _-_, _^_, _≤_, _<_};
 ghost use lib.ListN.{length};
-ghost use Rattle.checksum.specs.Sum.{onesSum};
-ghost use Rattle.checksum.specs.Reduced.{reduced};
-ghost use Rattle.address.specs.Address.{addressSize};
+ghost use Rattle.address.specs.Address.{addressSize, IsFlow};
 ghost use Rattle.segment.specs.Flags.{control};
 ghost use Rattle.packet.specs.Header.{dataOffset};
-ghost use Rattle.packet.specs.TcpSum.{halves, addressGroups, pseudoFields, segmentOctets};
+ghost use Rattle.packet.specs.TcpSum.{tcpSum, halves, addressGroups, pseudoFields};
 ghost use Rattle.packet.specs.Read.{rows6to8, ipv4Header, ipv4Addresses, segmentOf, row10, tcpRows, readIPv4, Inside};
 ghost use Rattle.packet.specs.Read.{causeNumber, answerAndOffset};
 use address::Address;
@@ -164,16 +162,16 @@ fn address_groups(address: Address) -> u64
 
 // The fields of the pseudo-header before a segment of n octets: addresses, protocol 6 and length.
 fn pseudo_fields(flow: Flow, n: usize) -> u64
-    requires { ⌜ n < 2 ^ 17 ⌝ }
+    requires { ⌜ n < 2 ^ 16 ⌝ }
     ensures { λ r. ⌜ (r ≡ pseudoFields flow n) × (r < 2 ^ 36) ⌝ }
 {
     address_groups(flow.from.address) + address_groups(flow.to.address) + 6 + n as u64
 }
 
-// The ones' complement sum of the pseudo-header and the segment from h to t.
+// The ones' complement sum of the pseudo-header, of whichever version's addresses these are, and the segment from h to t.
 fn tcp_sum(flow: Flow, s: &[u8], h: usize, t: usize) -> u16
-    requires { ⌜ (h ≤ 60) × (h ≤ t) × (t ≤ length (now s)) × (t - h < 2 ^ 16) ⌝ }
-    ensures { λ r. ⌜ r ≡ reduced (pseudoFields flow (t - h) + onesSum (segmentOctets (now (s .entry)) h t)) ⌝ }
+    requires { ⌜ (h ≤ t) × (t ≤ length (now s)) × (t - h < 2 ^ 16) ⌝ }
+    ensures { λ r. ⌜ ((v : Version) → IsFlow v flow → r ≡ tcpSum v flow (now (s .entry)) h t) ⌝ }
 {
     let length = t - h;
     let fields = pseudo_fields(flow, length);
@@ -183,7 +181,7 @@ fn tcp_sum(flow: Flow, s: &[u8], h: usize, t: usize) -> u16
 
 // Rows 9, 16 and 10, for the TCP header at h in a packet that ends at t, by where its IP version has the addresses.
 fn read_tcp(version: Version, addresses: usize, s: &[u8], h: usize, t: usize) -> PacketRead
-    requires { ⌜ (addresses + addressSize version + addressSize version ≤ h) × (h ≤ 60) × (h ≤ t) × (t ≤ length (now s)) × (t - h < 2 ^ 16) ⌝ }
+    requires { ⌜ (addresses + addressSize version + addressSize version ≤ h) × (h ≤ t) × (t ≤ length (now s)) × (t - h < 2 ^ 16) ⌝ }
     ensures { λ r. ⌜ r ≡ tcpRows version addresses (now (s .entry)) h t ⌝ }
 {
     let data_offset_at = h + 12;

@@ -1,23 +1,22 @@
 -- Rows 6 to 8, each by the fact that its test asks for.
-use Prim.Native.Nat.{ℕ, _-_, _%_, _≤_}
-use mathlib.Core.Path.{_≡_, sym, ap, _∙_}
-use mathlib.Core.List.{List}
+use Prim.Native.Nat.{ℕ, _%_}
+use mathlib.Core.Path.{_≡_, refl, sym, ap, _∙_}
 use native.Mathlib.Nat.{sub-zero}
 use native.Mathlib.Omega.{arith}
-use lib.ListN.{take, length}
+use lib.ListN.{take}
 use Rattle.octets.specs.BigEndian.{bigEndian}
 use Rattle.checksum.specs.Sum.{onesSum}
+use Rattle.packet.proofs.Summed.{part-sum}
 use Rattle.packet.proofs.Read.{refused-row6, refused-row7, refused-row8, past-row8}
 use borrow.Author.Needs.{needs}
 use Rattle.packet.proofs.check_ipv4_header.Statement.{statement}
 use Rattle.packet.proofs.check_ipv4_header.Tie as tie
 
+part-ones-sum-start : tie.Need-part-ones-sum-start
+part-ones-sum-start c = search needs
+
 part-ones-sum-end : tie.Need-part-ones-sum-end
 part-ones-sum-end c = search needs
-
--- a sum of the first n bytes, where these are the first h; that they are inside tells which n
-first-bytes : {r n : ℕ} (l : List ℕ) (h : ℕ) → n ≤ length l → r ≡ onesSum (take (n - 0) l) → n ≡ h → r ≡ onesSum (take h l)
-first-bytes {n = n} l h inside sum is = sum ∙ ap (λ (k : ℕ). onesSum (take k l)) (sub-zero n ∙ is)
 
 -- the part that was summed is the header
 summed :
@@ -25,7 +24,9 @@ summed :
     let a = c .before .before .before .args in c .ones-sum .result ≡ onesSum (take (a .h) (a .s .now))
 summed c =
     let a = c .before .before .before .args in
-    first-bytes (a .s .now) (a .h) (part-ones-sum-end (c .before .before)) (c .ones-sum .ensures) (omega arith)
+    let k = c .before .before in
+    part-sum (a .s .now) 0 (a .h) (part-ones-sum-start k) (part-ones-sum-end k) (c .ones-sum .ensures) refl (omega arith)
+    ∙ ap (λ (n : ℕ). onesSum (take n (a .s .now))) (sub-zero (a .h))
 
 right : (e : tie.Else1) → let a = e .before .before .before .before .args in onesSum (take (a .h) (a .s .now)) ≡ 65535
 right e = sym (summed (e .before)) ∙ e .if1 .left
@@ -41,9 +42,6 @@ whole e = sym (fragment (e .before)) ∙ e .if2 .left
 
 sub-ones-sum : tie.Need-sub-ones-sum
 sub-ones-sum c = search needs
-
-part-ones-sum-start : tie.Need-part-ones-sum-start
-part-ones-sum-start c = search needs
 
 ones-sum-requires : tie.Need-ones-sum-requires
 ones-sum-requires c κs = search needs
@@ -77,7 +75,7 @@ returns-4 c =
     let m = c .before .before in
     let k = m .before .before in
     let a = k .before .before .before .before .args in
-    (sym (past-row8 (a .s .now) (a .h) (a .t) (right k) (whole m) (c .if3 .left)), (omega arith, omega arith, omega arith, omega arith, omega arith))
+    (sym (past-row8 (a .s .now) (a .h) (a .t) (right k) (whole m) (c .if3 .left)), (omega arith, omega arith, omega arith, omega arith))
 
 pub check-ipv4-header-spec : {M : Type 1} → statement M
 check-ipv4-header-spec =

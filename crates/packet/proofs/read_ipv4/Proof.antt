@@ -21,7 +21,7 @@ read-tcp-requires c κs =
     let k = c .before .before .before in
     let p = k .before .before .args .s .now in
     let inside = subst (Inside V4 ipv4Addresses p) (c .before .header2 .given .1) (k .read-ipv4-header .ensures .1) in
-    (omega (arith, inside .0), inside .1, inside .2, inside .3, inside .4)
+    (omega (arith, inside .0), inside .1, inside .2, inside .3)
 
 returns : tie.Need-returns
 returns c =

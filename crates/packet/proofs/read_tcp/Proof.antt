@@ -1,20 +1,16 @@
 -- Row 9 by its tests, row 16 by the sum, row 10 by what was found of the flags.
-use Prim.Native.Nat.{_+_, _-_}
-use mathlib.Core.Path.{_≡_, sym, ap, _∙_}
+use Prim.Native.Nat.{_+_}
+use mathlib.Core.Path.{_≡_, sym, ap, subst⁻¹, _∙_}
 use native.Mathlib.Omega.{arith}
 use Rattle.choice.proofs.Choice.{if-<, if-<-not}
-use Rattle.octets.specs.Octets.{Octets}
-use Rattle.address.specs.Address.{flowAt}
+use Rattle.address.specs.Address.{flowAt, IsFlow}
 use Rattle.address.specs.declared.Flow.{Flow}
 use Rattle.address.proofs.Laws.{fits-flowAt}
-use Rattle.checksum.specs.Sum.{onesSum}
-use Rattle.checksum.specs.Reduced.{reduced}
-use Rattle.packet.specs.TcpSum.{segmentOctets, tcpSum, pseudoFields}
+use Rattle.packet.specs.TcpSum.{tcpSum}
 use Rattle.packet.specs.Read.{causeOffset, tcpRows}
 use Rattle.packet.specs.declared.Cause.the-variants.{TcpShort, DataOffsetBelowFive, DataOffsetPastTotal, TcpSum}
 use Rattle.packet.specs.declared.PacketRead.the-variants.{Refused, Tcp}
 use Rattle.packet.proofs.Flags.{flags-offset}
-use Rattle.packet.proofs.TcpSum.{tcpSum≡reduced}
 use Rattle.packet.proofs.Read.{refused-row16, refused-row10, past-row10}
 use borrow.Author.Needs.{needs}
 use Rattle.packet.proofs.read_tcp.Statement.{statement}
@@ -75,10 +71,10 @@ summed c =
     let k = c .before .before .before .before .before .before in
     let a = k .before .args in
     let p = a .s .now in
-    let octets : Octets p = λ i. k .shared-slice-known .given i .fits in
-    c .tcp-sum .ensures
-    ∙ ap (λ (f : Flow). reduced (pseudoFields f (a .t - a .h) + onesSum (segmentOctets p (a .h) (a .t)))) (c .before .read-flow .ensures)
-    ∙ sym (tcpSum≡reduced (a .version) _ p (a .h) (a .t) (fits-flowAt (a .version) p (a .addresses) (a .h) octets) octets (omega arith))
+    let flow = c .before .read-flow .ensures in
+    let is : IsFlow (a .version) (flowAt (a .version) p (a .addresses) (a .h)) =
+    fits-flowAt (a .version) p (a .addresses) (a .h) (λ i. k .shared-slice-known .given i .fits) in
+    c .tcp-sum .ensures (a .version) (subst⁻¹ (IsFlow (a .version)) flow is) ∙ ap (λ (f : Flow). tcpSum (a .version) f p (a .h) (a .t)) flow
 
 returns-4 : tie.Need-returns-4
 returns-4 c =

@@ -1,12 +1,13 @@
--- The fields and the segment's sum, with every carry added in.
-use Prim.Native.Nat.{ℕ, _+_, _-_, _≤_}
-use mathlib.Core.Path.{_≡_, ap, ap₂, _∙_}
-use mathlib.Core.List.{List}
+-- The pseudo-header's fields and the segment's sum, with every carry added in.
+use Prim.Native.Nat.{_-_}
+use mathlib.Core.Path.{_≡_, sym, ap, _∙_}
 use native.Mathlib.Omega.{arith}
-use lib.ListN.{length}
+use Rattle.octets.specs.Octets.{Octets}
 use Rattle.checksum.specs.Sum.{onesSum}
 use Rattle.checksum.specs.Reduced.{reduced}
 use Rattle.packet.specs.TcpSum.{segmentOctets, pseudoFields}
+use Rattle.packet.proofs.Summed.{part-sum}
+use Rattle.packet.proofs.TcpSum.{tcpSum≡reduced}
 use borrow.Author.Needs.{needs}
 use Rattle.packet.proofs.tcp_sum.Statement.{statement}
 use Rattle.packet.proofs.tcp_sum.Tie as tie
@@ -38,12 +39,6 @@ add-carries-added c = search needs
 carries-added-requires : tie.Need-carries-added-requires
 carries-added-requires c κs = search needs
 
--- a sum of what stands from a to e, where these are h and t; that they are in order and inside tells which they are
-from-to :
-    {r a e : ℕ} (l : List ℕ) (h t : ℕ) → a ≤ e → e ≤ length l → r ≡ onesSum (segmentOctets l a e) → a ≡ h → e ≡ t →
-    r ≡ onesSum (segmentOctets l h t)
-from-to l h t ordered inside sum first last = sum ∙ ap₂ (λ (a e : ℕ). onesSum (segmentOctets l a e)) first last
-
 -- the part that was summed is the segment
 summed :
     (c : tie.After-ones-sum) →
@@ -51,7 +46,7 @@ summed :
 summed c =
     let a = c .before .before .before .before .args in
     let k = c .before .before in
-    from-to (a .s .now) (a .h) (a .t) (part-ones-sum-start k) (part-ones-sum-end k) (c .ones-sum .ensures) (omega arith) (omega arith)
+    part-sum (a .s .now) (a .h) (a .t) (part-ones-sum-start k) (part-ones-sum-end k) (c .ones-sum .ensures) (omega arith) (omega arith)
 
 -- the length in the pseudo-header is the segment's
 fields :
@@ -60,7 +55,13 @@ fields :
 fields c = c .pseudo-fields .ensures .0 ∙ ap (pseudoFields (c .before .before .args .flow)) (omega arith)
 
 returns : tie.Need-returns
-returns c = c .carries-added .ensures ∙ ap reduced (omega (arith, fields (c .before .before .before), summed (c .before)))
+returns c v is =
+    let k = c .before .before .before .before in
+    let a = k .before .args in
+    let octets : Octets (a .s .now) = λ i. k .shared-slice-known .given i .fits in
+    c .carries-added .ensures
+    ∙ ap reduced (omega (arith, fields (c .before .before .before), summed (c .before)))
+    ∙ sym (tcpSum≡reduced v (a .flow) (a .s .now) (a .h) (a .t) is octets (omega arith))
 
 pub tcp-sum-spec : {M : Type 1} → statement M
 tcp-sum-spec =
