@@ -101,7 +101,7 @@ fn long_packet() -> Case {
         total: 1500,
         ..data(0)
     };
-    packet("packet/1500", draft)
+    packet("packet/options", draft)
 }
 
 /// On one free place, where it matches nothing.

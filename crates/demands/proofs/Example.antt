@@ -21,7 +21,7 @@ use Rattle.entry.specs.Layout.{endBytes, marksBytes, flowBytes, numbersBytes, e
 use Rattle.table.specs.Table.{zerosAt, allFrom, headerClock, soundHeader, freeAt, soundAt, soundTable}
 use Rattle.filter.specs.Length.{legalLength, placesFor}
 use Rattle.filter.specs.Call.{outcomeOf}
-use Rattle.demands.specs.Packets.{fieldOctets, octetsIn, checksumOf, payloadOf, ipHeader, tcpHeader, ipSum, segmentSum, packetOf}
+use Rattle.demands.specs.Packets.{fieldOctets, octetsIn, checksumOf, payloadOf, ipHeader, tcpHeader, ipChecksum, tcpChecksum, packetOf}
 use Rattle.demands.specs.Example.{ExampleAnswers, ExamplePackets}
 
 pub example : ExampleAnswers
@@ -29,5 +29,5 @@ unfolding rows6to8 ipv4Header row10 tcpRows tcpSum onesPlus onesSum tabulate num
 example = (refl, refl, refl)
 
 pub example-packets : ExamplePackets
-unfolding number digits octetsOf onesPlus onesSum fieldOctets octetsIn checksumOf payloadOf ipHeader tcpHeader ipSum segmentSum packetOf
+unfolding number digits octetsOf onesPlus onesSum fieldOctets octetsIn checksumOf payloadOf ipHeader tcpHeader ipChecksum tcpChecksum packetOf
 example-packets = (refl, refl, refl)

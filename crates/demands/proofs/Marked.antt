@@ -30,7 +30,7 @@ use Rattle.honest.specs.Machine.{asks}
 use Rattle.honest.specs.Marked.{afterAsk, empty, packet1, packet2, afterSyn, stateK, entry11, state11, Name, example, C, Case, markedSet, isLeft, holds, allHold}
 use Rattle.honest.proofs.Marked.{marked}
 use Rattle.demands.specs.Bytes.{SoundBytes, readingOf}
-use Rattle.demands.specs.Packets.{fieldOctets, octetsIn, checksumOf, payloadOf, ipHeader, tcpHeader, ipSum, segmentSum, packetOf, bytesCall}
+use Rattle.demands.specs.Packets.{fieldOctets, octetsIn, checksumOf, payloadOf, ipHeader, tcpHeader, ipChecksum, tcpChecksum, packetOf, bytesCall}
 use Rattle.demands.specs.Marked.{saidTo, emptyBytes, afterSynBytes, stateKBytes, state11Bytes, bytesBefore, OnBytes, AllOnBytes}
 use Rattle.demands.proofs.View.{view-after}
 use Rattle.demands.proofs.SoundAfter.{sound-after}
@@ -83,7 +83,7 @@ IsRead l = map (λ (c : Case). readingOf readIPv4 (bytesCall (c .call))) l ≡ m
 
 -- by computation, C11's 65,535 bytes among them
 all-read : Read packet1 × Read packet2 × IsRead markedSet
-unfolding if_then_else_ wrap number digits bigEndian octetsOf onesPlus onesSum rows6to8 ipv4Header row10 tcpRows tcpSum readingOf fieldOctets octetsIn checksumOf payloadOf ipHeader tcpHeader ipSum segmentSum packetOf
+unfolding if_then_else_ wrap number digits bigEndian octetsOf onesPlus onesSum rows6to8 ipv4Header row10 tcpRows tcpSum readingOf fieldOctets octetsIn checksumOf payloadOf ipHeader tcpHeader ipChecksum tcpChecksum packetOf
 all-read = (refl, refl, refl)
 
 -- The tables

@@ -24,8 +24,8 @@ use Rattle.honest.proofs.Transfer.{made-carries, refused-carries, legal-carried
 use Rattle.honest.proofs.Witness.{witness-legal, witness-shows}
 use Rattle.demands.specs.Bytes.{BytesCall, SoundBytes, readingOf, ipv4Machine}
 use Rattle.demands.specs.Demands.{freshBytes}
-use Rattle.demands.specs.Packets.{fieldOctets, octetsIn, checksumOf, payloadOf, ipHeader, tcpHeader, ipSum, segmentSum, packetOf, bytesCall}
-use Rattle.demands.specs.Witness.{madeWitness, wrongSum, fragment, wrongWindow, bytesWitness}
+use Rattle.demands.specs.Packets.{fieldOctets, octetsIn, checksumOf, payloadOf, ipHeader, tcpHeader, ipChecksum, tcpChecksum, packetOf, bytesCall}
+use Rattle.demands.specs.Witness.{madeWitness, wrongHeaderSum, fragment, wrongWindow, bytesWitness}
 use Rattle.demands.proofs.Fresh.{fresh-bytes-sound, fresh-bytes-view}
 use Rattle.demands.proofs.Keeps.{ipv4-keeps}
 use Rattle.demands.proofs.Demands.{demands-of-ipv4}
@@ -53,22 +53,22 @@ module _
 
 all-read :
     (readings ipv4Machine madeWitness ≡ readings viewed witness)
-    × (readingOf readIPv4 wrongSum ≡ refused 6 10)
+    × (readingOf readIPv4 wrongHeaderSum ≡ refused 6 10)
     × (readingOf readIPv4 fragment ≡ refused 7 6)
     × (readingOf readIPv4 wrongWindow ≡ refused 16 36)
-unfolding if_then_else_ wrap number digits bigEndian octetsOf overwrite onesPlus onesSum rows6to8 ipv4Header row10 tcpRows tcpSum readingOf fieldOctets octetsIn checksumOf payloadOf ipHeader tcpHeader ipSum segmentSum packetOf
+unfolding if_then_else_ wrap number digits bigEndian octetsOf overwrite onesPlus onesSum rows6to8 ipv4Header row10 tcpRows tcpSum readingOf fieldOctets octetsIn checksumOf payloadOf ipHeader tcpHeader ipChecksum tcpChecksum packetOf
 all-read = (refl, refl, refl, refl)
 
 -- the three packets that are refused
 pub bytes-witness-refuses :
-    (readingOf readIPv4 wrongSum ≡ refused 6 10) × (readingOf readIPv4 fragment ≡ refused 7 6) × (readingOf readIPv4 wrongWindow ≡ refused 16 36)
+    (readingOf readIPv4 wrongHeaderSum ≡ refused 6 10) × (readingOf readIPv4 fragment ≡ refused 7 6) × (readingOf readIPv4 wrongWindow ≡ refused 16 36)
 bytes-witness-refuses = (all-read .1, all-read .2, all-read .3)
 
 witness-carried : Carries ipv4Machine bytesWitness witness
 witness-carried =
     refused-carries ipv4Machine 40 fragment 7 6 (bytes-witness-refuses .1)
     (refused-carries ipv4Machine 47 wrongWindow 16 36 (bytes-witness-refuses .2)
-    (refused-carries ipv4Machine 48 wrongSum 6 10 (bytes-witness-refuses .0)
+    (refused-carries ipv4Machine 48 wrongHeaderSum 6 10 (bytes-witness-refuses .0)
     (made-carries ipv4Machine (λ b. bytesCall (b .0)) witness (all-read .0))))
 
 pub bytes-witness-legal : Legal ipv4Machine (freshBytes V4 64) pair bytesWitness

@@ -37,33 +37,33 @@ module _ (a : Ask) where
 
   -- version 4 and 5 words of header, total length; no fragment; time to live 64, protocol 6, the checksum given; addresses
   unfoldable pub ipHeader : ℕ → List Field
-  ipHeader sum =
+  ipHeader checksum =
       u8 0x45 ∷ u8 0 ∷ u16 (20 + 20 + payloadOf)
       ∷ u16 0 ∷ u16 0
-      ∷ u8 64 ∷ u8 6 ∷ u16 sum
+      ∷ u8 64 ∷ u8 6 ∷ u16 checksum
       ∷ u32 (a .key .from .address .low)
       ∷ u32 (a .key .to .address .low)
       ∷ []
 
   -- ports; numbers; 5 words of header, flags, window; the checksum given, no urgent pointer
   unfoldable pub tcpHeader : ℕ → List Field
-  tcpHeader sum =
+  tcpHeader checksum =
       u16 (a .key .from .port) ∷ u16 (a .key .to .port)
       ∷ u32 (a .segment .seq .0)
       ∷ u32 (a .segment .ack .0)
       ∷ u8 (5 * 16) ∷ u8 (a .segment .flags) ∷ u16 (a .segment .window .0)
-      ∷ u16 sum ∷ u16 0
+      ∷ u16 checksum ∷ u16 0
       ∷ []
 
   -- each checksum is taken over its header with a zero in its place, TCP's with the pseudo-header before it; a payload of zeros adds nothing
-  unfoldable pub ipSum : ℕ
-  ipSum = checksumOf (octetsIn (ipHeader 0))
+  unfoldable pub ipChecksum : ℕ
+  ipChecksum = checksumOf (octetsIn (ipHeader 0))
 
-  unfoldable pub segmentSum : ℕ
-  segmentSum = checksumOf (pseudoHeader V4 (a .key) (20 + payloadOf) ++ octetsIn (tcpHeader 0))
+  unfoldable pub tcpChecksum : ℕ
+  tcpChecksum = checksumOf (pseudoHeader V4 (a .key) (20 + payloadOf) ++ octetsIn (tcpHeader 0))
 
   unfoldable pub packetOf : List ℕ
-  packetOf = octetsIn (ipHeader ipSum ++ tcpHeader segmentSum) ++ replicate payloadOf 0
+  packetOf = octetsIn (ipHeader ipChecksum ++ tcpHeader tcpChecksum) ++ replicate payloadOf 0
 
 -- It is made of octets
 

@@ -23,8 +23,8 @@ spoilt from n v q = record {
 }
 
 -- the opener's sending 4 with a time to live of 63 for 64: the header's sum is wrong
-abbrev pub wrongSum : BytesCall
-wrongSum = spoilt 8 1 63 (bytesCall (brings 180900 (o 4) .0))
+abbrev pub wrongHeaderSum : BytesCall
+wrongHeaderSum = spoilt 8 1 63 (bytesCall (brings 180900 (o 4) .0))
 
 -- its sending 5 with more-fragments set and a time to live of 32, so that the sum is right
 abbrev pub fragment : BytesCall
@@ -35,6 +35,7 @@ fragment = spoilt 6 3 0x200020 (bytesCall (brings 181900 (o 5) .0))
 abbrev pub wrongWindow : BytesCall
 wrongWindow = spoilt 34 2 0xffff (bytesCall (brings 181050 (a 2) .0))
 
--- each right before the arrival of the packet that it was made from: the fragment 40th from the end, the wrong window 47th, the wrong sum 48th
+-- each right before the arrival of the packet that it was made from: 40 of the witness's events come after the fragment, 47 after the wrong window, 48
+-- after the wrong header sum
 abbrev pub bytesWitness : List (Event BytesCall)
-bytesWitness = withOther 40 fragment (withOther 47 wrongWindow (withOther 48 wrongSum madeWitness))
+bytesWitness = withOther 40 fragment (withOther 47 wrongWindow (withOther 48 wrongHeaderSum madeWitness))

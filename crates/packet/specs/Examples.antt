@@ -1,4 +1,5 @@
--- Packets for examples, and what row 16 says of some: each of those refused has the sum that a reader with one word of the rule wrong would take.
+-- Packets for examples, and what row 16 says of some: right ones; those with the checksum that a reader would take who has got one thing of the
+-- rule wrong; and two that show its place among the rows.
 use Prim.Native.Nat.{ℕ}
 use mathlib.Core.Path.{_≡_}
 use mathlib.Core.List.{List, [], _∷_, _++_}
@@ -11,27 +12,27 @@ use Rattle.packet.specs.Read.{readIPv4, answerAndOffset}
 
 -- 20 bytes of IPv4 header, the first with version and header length, from 10.0.0.from to 10.0.0.to, before the rest; 20 bytes of TCP. Each has the
 -- two bytes of its checksum
-abbrev pub ipv4 : (first length fragment protocol sum sum' from to : ℕ) → List ℕ → List ℕ
-ipv4 first length fragment protocol sum sum' from to rest =
+abbrev pub ipv4 : (first length fragment protocol check check' from to : ℕ) → List ℕ → List ℕ
+ipv4 first length fragment protocol check check' from to rest =
     first ∷ 0 ∷ 0 ∷ length
     ∷ 0 ∷ 0 ∷ fragment ∷ 0
-    ∷ 64 ∷ protocol ∷ sum ∷ sum'
+    ∷ 64 ∷ protocol ∷ check ∷ check'
     ∷ 10 ∷ 0 ∷ 0 ∷ from
     ∷ 10 ∷ 0 ∷ 0 ∷ to
     ∷ rest
 
-abbrev pub tcp : (dataOffsetByte flags sum sum' : ℕ) → List ℕ
-tcp dataOffsetByte flags sum sum' = replicate 12 0 ++ (dataOffsetByte ∷ flags ∷ 0 ∷ 0 ∷ sum ∷ sum' ∷ 0 ∷ 0 ∷ [])
+abbrev pub tcp : (dataOffsetByte flags check check' : ℕ) → List ℕ
+tcp dataOffsetByte flags check check' = replicate 12 0 ++ (dataOffsetByte ∷ flags ∷ 0 ∷ 0 ∷ check ∷ check' ∷ 0 ∷ 0 ∷ [])
 
 -- an ACK with one payload octet, 0x41, which makes a total length of 41; a byte 0xff follows
-abbrev odd : (sum sum' : ℕ) → List ℕ
-odd sum sum' = ipv4 0x45 41 0 6 0x66 0xcd 1 2 (tcp 80 16 sum sum' ++ (0x41 ∷ 0xff ∷ []))
+abbrev odd : (check check' : ℕ) → List ℕ
+odd check check' = ipv4 0x45 41 0 6 0x66 0xcd 1 2 (tcp 80 16 check check' ++ (0x41 ∷ 0xff ∷ []))
 
--- an ACK with two payload octets, which bring the sum to ffff by themselves
-abbrev even : (sum sum' : ℕ) → List ℕ
-even sum sum' = ipv4 0x45 42 0 6 0x66 0xcc 1 2 (tcp 80 16 sum sum' ++ (0x9b ∷ 0xd0 ∷ []))
+-- an ACK with two payload octets, with which the sum is ffff where the checksum field is 0
+abbrev even : (check check' : ℕ) → List ℕ
+even check check' = ipv4 0x45 42 0 6 0x66 0xcc 1 2 (tcp 80 16 check check' ++ (0x9b ∷ 0xd0 ∷ []))
 
--- from 2001:db8::1 to 2001:db8::2, the segment of `odd`
+-- from 2001:db8::1 to 2001:db8::2
 abbrev overIPv6 : Flow
 overIPv6 = between (endpoint (record { high = 0x20010db800000000; low = 1 }) 0) (endpoint (record { high = 0x20010db800000000; low = 2 }) 0)
 
@@ -39,7 +40,7 @@ abbrev reads : List ℕ → ℕ × ℕ
 reads p = answerAndOffset (readIPv4 p)
 
 pub record RowSixteen : Type 0 where
-  -- the right sum; the octet that follows taken for the padding; the padding before the octet
+  -- the right checksum; the octet that follows taken for the padding; the padding before the octet
   pub padded : reads (odd 0x5a 0xd1) ≡ (0, 0)
   pub past-total : reads (odd 0x59 0xd2) ≡ (16, 36)
   pub padded-before : reads (odd 0x9b 0x90) ≡ (16, 36)
@@ -51,8 +52,8 @@ pub record RowSixteen : Type 0 where
   pub zero-wrong : reads (odd 0 0) ≡ (16, 36)
   pub zero-right : reads (even 0 0) ≡ (0, 0)
   pub ones-right : reads (even 0xff 0xff) ≡ (0, 0)
-  -- a wrong sum with a data offset of 4 words, and with none of SYN, ACK and RST: after 9 and before 10
+  -- a wrong checksum with a data offset of 4 words, and with none of SYN, ACK and RST: after 9 and before 10
   pub after-9 : reads (ipv4 0x45 40 0 6 0x66 0xce 1 2 (tcp 64 16 0 0)) ≡ (9, 32)
   pub before-10 : reads (ipv4 0x45 40 0 6 0x66 0xce 1 2 (tcp 80 0 0 0)) ≡ (16, 36)
-  -- a right sum over IPv6, of the segment alone
+  -- the segment of `odd` with its right checksum over IPv6
   pub over-ipv6 : tcpSum V6 overIPv6 (tcp 80 16 0x13 0x5f ++ (0x41 ∷ [])) 0 21 ≡ 0xffff

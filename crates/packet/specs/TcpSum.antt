@@ -1,5 +1,5 @@
 -- The sum that TCP's checksum makes ffff (document 02, item 5): of the segment with a pseudo-header before it, over both IP versions' addresses.
-use Prim.Native.Nat.{ℕ, _+_, _-_, _/_, _%_}
+use Prim.Native.Nat.{ℕ, _+_, _-_, _/_, _%_, _^_}
 use mathlib.Core.List.{List, [], _∷_, _++_}
 use lib.ListN.{take, drop}
 use Rattle.octets.specs.BigEndian.{octetsOf}
@@ -29,14 +29,15 @@ segmentOctets p h t = take (t - h) (drop h p)
 unfoldable pub tcpSum : Version → Flow → List ℕ → ℕ → ℕ → ℕ
 tcpSum v k p h t = onesSum (pseudoHeader v k (t - h) ++ segmentOctets p h t)
 
--- What the code adds up of either version's pseudo-header: its fields as numbers, an address by groups of 32 bits. The sum of a number's octets is
--- the number with its carries added in.
+-- A second form: what the code adds up of either version's pseudo-header, its fields as numbers, before any carry is added in. The ones' complement
+-- sum of a number's octets is the number with its carries added in (checksum/proofs/Numbers).
 
-unfoldable pub halves : ℕ → ℕ
-halves n = n % 4294967296 + n / 4294967296
+-- the two halves of 64 bits
+unfoldable pub halvesAdded : ℕ → ℕ
+halvesAdded n = n % (2 ^ 32) + n / (2 ^ 32)
 
-abbrev pub addressGroups : Address → ℕ
-addressGroups a = halves (a .high) + halves (a .low)
+abbrev pub addressAdded : Address → ℕ
+addressAdded a = halvesAdded (a .high) + halvesAdded (a .low)
 
-abbrev pub pseudoFields : Flow → ℕ → ℕ
-pseudoFields k n = addressGroups (k .from .address) + addressGroups (k .to .address) + 6 + n
+abbrev pub fieldsAdded : Flow → ℕ → ℕ
+fieldsAdded k n = addressAdded (k .from .address) + addressAdded (k .to .address) + 6 + n

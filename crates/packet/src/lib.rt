@@ -6,7 +6,7 @@ ghost use lib.ListN.{length};
 ghost use Rattle.address.specs.Address.{addressSize, IsFlow};
 ghost use Rattle.segment.specs.Flags.{control};
 ghost use Rattle.packet.specs.Header.{dataOffset};
-ghost use Rattle.packet.specs.TcpSum.{tcpSum, halves, addressGroups, pseudoFields};
+ghost use Rattle.packet.specs.TcpSum.{tcpSum, halvesAdded, addressAdded, fieldsAdded};
 ghost use Rattle.packet.specs.Read.{rows6to8, ipv4Header, ipv4Addresses, segmentOf, row10, tcpRows, readIPv4, Inside};
 ghost use Rattle.packet.specs.Read.{causeNumber, answerAndOffset};
 use address::Address;
@@ -147,25 +147,26 @@ fn read_segment(s: &[u8], h: usize, t: usize) -> Segment
     }
 }
 
-// A number's two groups of 32 bits; in ones' complement they count alike.
-fn halves(n: u64) -> u64
-    ensures { λ r. ⌜ (r ≡ halves n) × (r < 2 ^ 33) ⌝ }
+// The two halves of a number, added: in ones' complement they count alike.
+fn halves_added(n: u64) -> u64
+    ensures { λ r. ⌜ (r ≡ halvesAdded n) × (r < 2 ^ 33) ⌝ }
 {
     n % 4294967296 + n / 4294967296
 }
 
-fn address_groups(address: Address) -> u64
-    ensures { λ r. ⌜ (r ≡ addressGroups address) × (r < 2 ^ 34) ⌝ }
+// The four groups of 32 bits that an address has, of which an IPv4 address has one.
+fn address_added(address: Address) -> u64
+    ensures { λ r. ⌜ (r ≡ addressAdded address) × (r < 2 ^ 34) ⌝ }
 {
-    halves(address.high) + halves(address.low)
+    halves_added(address.high) + halves_added(address.low)
 }
 
-// The fields of the pseudo-header before a segment of n octets: addresses, protocol 6 and length.
-fn pseudo_fields(flow: Flow, n: usize) -> u64
+// The fields of the pseudo-header before a segment of n octets, added: addresses, protocol 6 and length.
+fn fields_added(flow: Flow, n: usize) -> u64
     requires { ⌜ n < 2 ^ 16 ⌝ }
-    ensures { λ r. ⌜ (r ≡ pseudoFields flow n) × (r < 2 ^ 36) ⌝ }
+    ensures { λ r. ⌜ (r ≡ fieldsAdded flow n) × (r < 2 ^ 36) ⌝ }
 {
-    address_groups(flow.from.address) + address_groups(flow.to.address) + 6 + n as u64
+    address_added(flow.from.address) + address_added(flow.to.address) + 6 + n as u64
 }
 
 // The ones' complement sum of the pseudo-header, of whichever version's addresses these are, and the segment from h to t.
@@ -173,8 +174,8 @@ fn tcp_sum(flow: Flow, s: &[u8], h: usize, t: usize) -> u16
     requires { ⌜ (h ≤ t) × (t ≤ length (now s)) × (t - h < 2 ^ 16) ⌝ }
     ensures { λ r. ⌜ ((v : Version) → IsFlow v flow → r ≡ tcpSum v flow (now (s .entry)) h t) ⌝ }
 {
-    let length = t - h;
-    let fields = pseudo_fields(flow, length);
+    let tcp_length = t - h;
+    let fields = fields_added(flow, tcp_length);
     let segment = ones_sum(&s[h..t]) as u64;
     carries_added(fields + segment)
 }

@@ -1,4 +1,4 @@
--- What the header gives is either refused or handed on to rows 9 and 10.
+-- What the header gives is either refused or handed on to rows 9, 16 and 10.
 use mathlib.Core.Path.{sym, ap, subst, _∙_}
 use native.Mathlib.Omega.{arith}
 use Rattle.address.specs.declared.Version.the-variants.{V4}

@@ -5,18 +5,18 @@ use native.Mathlib.Omega.{arith}
 use Rattle.octets.specs.Octets.{Octets}
 use Rattle.checksum.specs.Sum.{onesSum}
 use Rattle.checksum.specs.Reduced.{reduced}
-use Rattle.packet.specs.TcpSum.{segmentOctets, pseudoFields}
+use Rattle.packet.specs.TcpSum.{segmentOctets, fieldsAdded}
 use Rattle.packet.proofs.Summed.{part-sum}
 use Rattle.packet.proofs.TcpSum.{tcpSum≡reduced}
 use borrow.Author.Needs.{needs}
 use Rattle.packet.proofs.tcp_sum.Statement.{statement}
 use Rattle.packet.proofs.tcp_sum.Tie as tie
 
-sub-length : tie.Need-sub-length
-sub-length c = search needs
+sub-tcp-length : tie.Need-sub-tcp-length
+sub-tcp-length c = search needs
 
-pseudo-fields-requires : tie.Need-pseudo-fields-requires
-pseudo-fields-requires c κs = search needs
+fields-added-requires : tie.Need-fields-added-requires
+fields-added-requires c κs = search needs
 
 sub-ones-sum : tie.Need-sub-ones-sum
 sub-ones-sum c = search needs
@@ -50,9 +50,9 @@ summed c =
 
 -- the length in the pseudo-header is the segment's
 fields :
-    (c : tie.After-pseudo-fields) →
-    let a = c .before .before .args in c .pseudo-fields .result ≡ pseudoFields (a .flow) (a .t - a .h)
-fields c = c .pseudo-fields .ensures .0 ∙ ap (pseudoFields (c .before .before .args .flow)) (omega arith)
+    (c : tie.After-fields-added) →
+    let a = c .before .before .args in c .fields-added .result ≡ fieldsAdded (a .flow) (a .t - a .h)
+fields c = c .fields-added .ensures .0 ∙ ap (fieldsAdded (c .before .before .args .flow)) (omega arith)
 
 returns : tie.Need-returns
 returns c v is =
@@ -67,8 +67,8 @@ pub tcp-sum-spec : {M : Type 1} → statement M
 tcp-sum-spec =
     tie.close
     (tie.spec
-    sub-length
-    pseudo-fields-requires
+    sub-tcp-length
+    fields-added-requires
     sub-ones-sum
     part-ones-sum-start
     part-ones-sum-end
