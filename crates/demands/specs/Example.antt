@@ -3,8 +3,8 @@ use Prim.Native.Nat.{ℕ}
 use mathlib.Core.Path.{_≡_}
 use mathlib.Core.List.{List, [], _∷_}
 use Rattle.address.specs.declared.Version.the-variants.{V4}
+use Rattle.packet.specs.Examples.{ipv4}
 use Rattle.filter.specs.Call.{ipv4Outcome, replyOf, tableAfter}
-use Rattle.filter.specs.Order.{ipv4}
 use Rattle.honest.specs.Marked as marked
 use Rattle.demands.specs.Demands.{freshBytes}
 use Rattle.demands.specs.Packets.{packetOf}
