@@ -1,6 +1,6 @@
 -- The ones' complement sum of a number's octets is the number with its carries added in, as 65,536 is 1 modulo 65,535.
 use Prim.Native.Nat.{ℕ, zero, suc, _+_, _*_, _/_, _%_, _^_, _<_}
-use mathlib.Core.Path.{_≡_, refl, sym, ap, _∙_}
+use mathlib.Core.Path.{_≡_, refl, ap, _∙_}
 use mathlib.Core.List.{List, [], _∷_, _++_, append-assoc}
 use native.Mathlib.Omega.{arith}
 use native.Mathlib.Nat.{div-lt-iff-lt-mul, pow-zero, pow-suc}
@@ -48,7 +48,7 @@ pub sums-word : (a b : ℕ) → a < 256 → b < 256 → SumsTo (a ∷ b ∷ []) 
 unfolding onesSum onesPlus reduced
 sums-word a b high low = record { octets = bytes-∷ high (bytes-∷ low bytes-[]); whole = refl; sum = omega arith }
 
--- the octets of n 16-bit words
+-- how many octets n 16-bit words have
 abbrev pub words : ℕ → ℕ
 words zero = zero
 words (suc n) = suc (suc (words n))

@@ -3,7 +3,7 @@
 ghost use mathlib.Core.Path.{_≡_};
 ghost use Prim.Native.Nat.{_+_, _-_, _^_, _≤_, _<_};
 ghost use lib.ListN.{length};
-ghost use Rattle.address.specs.Address.{addressSize, IsFlow};
+ghost use Rattle.address.specs.Address.{addressSize, flowAt};
 ghost use Rattle.segment.specs.Flags.{control};
 ghost use Rattle.packet.specs.Header.{dataOffset};
 ghost use Rattle.packet.specs.TcpSum.{tcpSum, halvesAdded, addressAdded, fieldsAdded};
@@ -169,14 +169,15 @@ fn fields_added(flow: Flow, n: usize) -> u64
     address_added(flow.from.address) + address_added(flow.to.address) + 6 + n as u64
 }
 
-// The ones' complement sum of the pseudo-header, of whichever version's addresses these are, and the segment from h to t.
-fn tcp_sum(flow: Flow, s: &[u8], h: usize, t: usize) -> u16
-    requires { ⌜ (h ≤ t) × (t ≤ length (now s)) × (t - h < 2 ^ 16) ⌝ }
-    ensures { λ r. ⌜ ((v : Version) → IsFlow v flow → r ≡ tcpSum v flow (now (s .entry)) h t) ⌝ }
+// The ones' complement sum of the pseudo-header and the segment from h to t. The addresses are read after the segment was summed, so that none
+// is kept meanwhile.
+fn tcp_sum(version: Version, addresses: usize, s: &[u8], h: usize, t: usize) -> u16
+    requires { ⌜ (addresses + addressSize version + addressSize version ≤ h) × (h + 20 ≤ t) × (t ≤ length (now s)) × (t - h < 2 ^ 16) ⌝ }
+    ensures { λ r. ⌜ r ≡ tcpSum version (flowAt version (now (s .entry)) addresses h) (now (s .entry)) h t ⌝ }
 {
-    let tcp_length = t - h;
-    let fields = fields_added(flow, tcp_length);
     let segment = ones_sum(&s[h..t]) as u64;
+    let tcp_length = t - h;
+    let fields = fields_added(read_flow(version, s, addresses, h), tcp_length);
     carries_added(fields + segment)
 }
 
@@ -198,14 +199,16 @@ fn read_tcp(version: Version, addresses: usize, s: &[u8], h: usize, t: usize) ->
     if t - h < data_offset {
         return PacketRead::Refused(Cause::DataOffsetPastTotal, data_offset_at);
     }
-    let flow = read_flow(version, s, addresses, h);
-    if tcp_sum(flow, s, h, t) != 65535 {
+    if tcp_sum(version, addresses, s, h, t) != 65535 {
         return PacketRead::Refused(Cause::TcpSum, checksum_at);
     }
     let check = check_flags(s[flags_at], t - h - data_offset);
     match check {
         FlagCheck::BadFlags(cause) => PacketRead::Refused(cause, flags_at),
-        FlagCheck::Fine => PacketRead::Tcp(flow, read_segment(s, h, t)),
+        FlagCheck::Fine => PacketRead::Tcp(
+            read_flow(version, s, addresses, h),
+            read_segment(s, h, t),
+        ),
     }
 }
 

@@ -1,12 +1,8 @@
 -- Row 9 by its tests, row 16 by the sum, row 10 by what was found of the flags.
 use Prim.Native.Nat.{_+_}
-use mathlib.Core.Path.{_≡_, sym, ap, subst⁻¹, _∙_}
+use mathlib.Core.Path.{sym, ap, _∙_}
 use native.Mathlib.Omega.{arith}
 use Rattle.choice.proofs.Choice.{if-<, if-<-not}
-use Rattle.address.specs.Address.{flowAt, IsFlow}
-use Rattle.address.specs.declared.Flow.{Flow}
-use Rattle.address.proofs.Laws.{fits-flowAt}
-use Rattle.packet.specs.TcpSum.{tcpSum}
 use Rattle.packet.specs.Read.{causeOffset, tcpRows}
 use Rattle.packet.specs.declared.Cause.the-variants.{TcpShort, DataOffsetBelowFive, DataOffsetPastTotal, TcpSum}
 use Rattle.packet.specs.declared.PacketRead.the-variants.{Refused, Tcp}
@@ -56,33 +52,16 @@ returns-3 c =
     ap (Refused DataOffsetPastTotal) (omega arith)
     ∙ sym (if-<-not _ _ (c .before .before .before .if1 .left) ∙ if-<-not _ _ (c .before .if2 .left) ∙ if-< _ _ (c .if3 .taken))
 
-read-flow-requires : tie.Need-read-flow-requires
-read-flow-requires c κs = search needs
-
 tcp-sum-requires : tie.Need-tcp-sum-requires
 tcp-sum-requires c κs = search needs
 
--- what was summed is the segment behind the pseudo-header of its flow
-summed :
-    (c : tie.After-tcp-sum) →
-    let a = c .before .before .before .before .before .before .before .args in
-    c .tcp-sum .result ≡ tcpSum (a .version) (flowAt (a .version) (a .s .now) (a .addresses) (a .h)) (a .s .now) (a .h) (a .t)
-summed c =
-    let k = c .before .before .before .before .before .before in
-    let a = k .before .args in
-    let p = a .s .now in
-    let flow = c .before .read-flow .ensures in
-    let is : IsFlow (a .version) (flowAt (a .version) p (a .addresses) (a .h)) =
-    fits-flowAt (a .version) p (a .addresses) (a .h) (λ i. k .shared-slice-known .given i .fits) in
-    c .tcp-sum .ensures (a .version) (subst⁻¹ (IsFlow (a .version)) flow is) ∙ ap (λ (f : Flow). tcpSum (a .version) f p (a .h) (a .t)) flow
-
 returns-4 : tie.Need-returns-4
 returns-4 c =
-    let m = c .before .before .before in
+    let m = c .before .before in
     let a = m .before .before .before .before .before .args in
     let refused = refused-row16 (a .version) (a .addresses) (a .s .now) (a .h) (a .t) in
     ap (Refused TcpSum) (omega arith)
-    ∙ sym (refused (m .before .before .before .if1 .left) (m .before .if2 .left) (m .if3 .left) (λ e. c .if4 .taken (summed (c .before) ∙ e)))
+    ∙ sym (refused (m .before .before .before .if1 .left) (m .before .if2 .left) (m .if3 .left) (λ e. c .if4 .taken (c .before .tcp-sum .ensures ∙ e)))
 
 shared-slice-read-check-flags : tie.Need-shared-slice-read-check-flags
 shared-slice-read-check-flags c = search needs
@@ -102,37 +81,34 @@ enum-known-check c = search needs
 enum-told : tie.Need-enum-told
 enum-told c = search needs
 
+read-flow-requires : tie.Need-read-flow-requires
+read-flow-requires c κs = search needs
+
 read-segment-requires : tie.Need-read-segment-requires
 read-segment-requires c κs = search needs
-
-right :
-    (e : tie.Else4) →
-    let a = e .before .before .before .before .before .before .before .before .args in
-    tcpSum (a .version) (flowAt (a .version) (a .s .now) (a .addresses) (a .h)) (a .s .now) (a .h) (a .t) ≡ 65535
-right e = sym (summed (e .before)) ∙ e .if4 .left
 
 returns-5 : tie.Need-returns-5
 returns-5 c =
     let k = c .before .before .before in
     let e = k .before .before in
-    let m = e .before .before .before in
+    let m = e .before .before in
     let a = m .before .before .before .before .before .args in
     let refused = refused-row10 (a .version) (a .addresses) (a .s .now) (a .h) (a .t) in
     let cause = c .before .check .given .0 .0 in
     let bad = sym (k .check-flags .ensures) ∙ c .before .check .given .1 in
     ap (Refused cause) {y = causeOffset (a .h) cause} (omega (arith, flags-offset (a .h) _ _ cause bad))
-    ∙ sym (refused (m .before .before .before .if1 .left) (m .before .if2 .left) (m .if3 .left) (right e) _ bad)
+    ∙ sym (refused (m .before .before .before .if1 .left) (m .before .if2 .left) (m .if3 .left) (sym (e .before .tcp-sum .ensures) ∙ e .if4 .left) _ bad)
 
 returns-6 : tie.Need-returns-6
 returns-6 c =
-    let k = c .before .before .before in
+    let k = c .before .before .before .before in
     let e = k .before .before in
-    let m = e .before .before .before in
+    let m = e .before .before in
     let a = m .before .before .before .before .before .args in
     let past = past-row10 (a .version) (a .addresses) (a .s .now) (a .h) (a .t) in
-    let fine = sym (k .check-flags .ensures) ∙ c .before .enum-told .given .1 in
-    (λ i. Tcp (e .before .before .read-flow .ensures i) (c .read-segment .ensures i))
-    ∙ sym (past (m .before .before .before .if1 .left) (m .before .if2 .left) (m .if3 .left) (right e) fine)
+    let fine = sym (k .check-flags .ensures) ∙ c .before .before .enum-told .given .1 in
+    (λ i. Tcp (c .before .read-flow .ensures i) (c .read-segment .ensures i))
+    ∙ sym (past (m .before .before .before .if1 .left) (m .before .if2 .left) (m .if3 .left) (sym (e .before .tcp-sum .ensures) ∙ e .if4 .left) fine)
 
 pub read-tcp-spec : {M : Type 1} → statement M
 read-tcp-spec =
@@ -149,7 +125,6 @@ read-tcp-spec =
     returns-2
     sub-if3
     returns-3
-    read-flow-requires
     tcp-sum-requires
     returns-4
     shared-slice-read-check-flags
@@ -158,6 +133,7 @@ read-tcp-spec =
     check-flags-requires
     enum-known-check
     enum-told
+    read-flow-requires
     read-segment-requires
     returns-5
     returns-6)
