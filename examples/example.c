@@ -1,4 +1,4 @@
-/* Runs the example of docs/RULES.md through the library: each line is read, the filter asked about its packet, and the packet written back as a line. Then a packet with one byte changed, in its IP header and in its segment, and a
+/* Runs the example of docs/RULES.md through the library: each line is read, the filter asked about its packet, and the packet written back as a line. Then a packet with one byte changed, first in its IP header, then in its segment, and a
    wrong side, which print nothing if they are answered as they should be. */
 #include <stdio.h>
 #include <string.h>

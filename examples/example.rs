@@ -1,6 +1,6 @@
 //! Runs the example of docs/RULES.md through the library: each line is read, the filter asked about its packet,
-//! and the packet written back as a line. Then a packet with one byte changed, in its IP header and
-//! in its segment, which prints nothing if it is answered as it should be.
+//! and the packet written back as a line. Then a packet with one byte changed, first in its IP header,
+//! then in its segment, which prints nothing if it is answered as it should be.
 
 /// The library's functions. They are safe to call on references, which are never null, point to as
 /// many bytes as their lengths say, and of which no `&mut` overlaps another.

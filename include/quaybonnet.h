@@ -40,8 +40,8 @@ extern "C" {
  *    7  it is a fragment [6]
  *    8  it is not TCP [9]
  *    9  under 20 bytes follow the IP header within total length [h]; TCP data offset under 5 words or past total length [h + 12]
- *   16  the TCP checksum, over the pseudo-header and the segment up to total length, is wrong [h + 16]; hand over packets as they are on the wire:
- *       one whose checksum is left to the network card, or that was put together of several, has no right one
+ *   16  the TCP checksum, over the pseudo-header and the segment up to total length, is wrong [h + 16]. Hand over packets as they are on the wire:
+ *       a checksum that is left to the network card, or segments joined into one, get 16
  *   10  SYN with FIN or RST, none of SYN, ACK and RST, or SYN with payload [h + 13]
  *   11  no live connection matches, and it is not a SYN without ACK from side 0
  *   12  it would open a connection, and no place is free or expired

@@ -20,7 +20,7 @@ pub record SumsTo (l : List ℕ) (s : ℕ) : Type 0 where
   pub whole : length l % 2 ≡ 0
   pub sum : onesSum l ≡ reduced s
 
--- they may stand before octets of any number
+-- any further octets may follow them
 pub sum-behind : (l m : List ℕ) (s : ℕ) → SumsTo l s → Octets m → onesSum (l ++ m) ≡ reduced (s + onesSum m)
 sum-behind l m s first octets =
     let other-way : reduced s + onesSum m ≡ onesSum m + reduced s = omega arith in

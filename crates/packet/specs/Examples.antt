@@ -1,5 +1,5 @@
--- Packets for examples, and what row 16 says of some: right ones; those with the checksum that a reader would take who has got one thing of the
--- rule wrong; and two that show its place among the rows.
+-- Packets for examples, and what row 16 says of some: right ones; ones whose checksum was made with one thing of the rule wrong; and two that show
+-- its place among the rows.
 use Prim.Native.Nat.{ℕ}
 use mathlib.Core.Path.{_≡_}
 use mathlib.Core.List.{List, [], _∷_, _++_}

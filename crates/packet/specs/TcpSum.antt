@@ -32,7 +32,7 @@ tcpSum v k p h t = onesSum (pseudoHeader v k (t - h) ++ segmentOctets p h t)
 -- A second form: what the code adds up of either version's pseudo-header, its fields as numbers, before any carry is added in. The ones' complement
 -- sum of a number's octets is the number with its carries added in (checksum/proofs/Numbers).
 
--- the two halves of 64 bits
+-- the upper and the lower 32 bits of a number below 2^64: 2^32 is 1 modulo 65,535, so both count alike in the sum
 unfoldable pub halvesAdded : ℕ → ℕ
 halvesAdded n = n % (2 ^ 32) + n / (2 ^ 32)
 

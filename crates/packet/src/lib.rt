@@ -147,7 +147,7 @@ fn read_segment(s: &[u8], h: usize, t: usize) -> Segment
     }
 }
 
-// The two halves of a number, added: in ones' complement they count alike.
+// The upper and the lower 32 bits, added: 2^32 is 1 modulo 65,535, so both count alike in the sum.
 fn halves_added(n: u64) -> u64
     ensures { λ r. ⌜ (r ≡ halvesAdded n) × (r < 2 ^ 33) ⌝ }
 {
