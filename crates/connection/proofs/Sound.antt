@@ -1,7 +1,7 @@
 -- Laws of a sound connection: what soundness says, fact by fact, and that the stage and the FIN bits that a pass leaves are sound.
 use Prim.Native.Nat.{ℕ, zero, suc, _+_, _<_, _≤_, max}
 use mathlib.Core.Path.{_≡_, refl, sym, _∙_}
-use mathlib.Core.Logic.{_⊎_, inl, inr, ⊎-elim}
+use mathlib.Core.Logic.{⊎-elim}
 use mathlib.Core.Bool.{true, _&&_}
 use native.Mathlib.Omega.{arith}
 use borrow.Author.Tests.{le-leb, leb-true, eqb-true}
@@ -27,37 +27,54 @@ pub soundFins-in-4 : (stage fins : ℕ) → stage ≡ 4 → soundFins stage fins
 unfolding soundFins
 soundFins-in-4 stage fins h = let above : 3 < stage = omega arith in if-≤-not _ _ above ∙ if-= _ _ h
 
-pub soundFins-from-5 : (stage fins : ℕ) → 5 ≤ stage → soundFins stage fins ≡ (fins =ᵇ 3)
+pub soundFins-in-5 : (stage fins : ℕ) → stage ≡ 5 → soundFins stage fins ≡ (fins =ᵇ 3)
 unfolding soundFins
-soundFins-from-5 stage fins h =
+soundFins-in-5 stage fins h =
     let above : 3 < stage = omega arith in
-    let other : stage ≡ 4 → ⊥ = λ e. omega (arith, e) in
-    if-≤-not _ _ above ∙ if-=-not _ _ other
+    let not-4 : stage ≡ 4 → ⊥ = λ e. omega (arith, e) in
+    if-≤-not _ _ above ∙ if-=-not _ _ not-4 ∙ if-= _ _ h
+
+pub soundFins-from-6 : (stage fins : ℕ) → 6 ≤ stage → soundFins stage fins ≡ (fins ≤ᵇ 3)
+unfolding soundFins
+soundFins-from-6 stage fins h =
+    let above : 3 < stage = omega arith in
+    let not-4 : stage ≡ 4 → ⊥ = λ e. omega (arith, e) in
+    let not-5 : stage ≡ 5 → ⊥ = λ e. omega (arith, e) in
+    if-≤-not _ _ above ∙ if-=-not _ _ not-4 ∙ if-=-not _ _ not-5
 
 -- the FIN bits that a stage allows, case by case
-abbrev pub Fins : ℕ → ℕ → Type 0
-Fins stage fins = ((stage ≤ 3) × (fins ≡ 0)) ⊎ (((stage ≡ 4) × (1 ≤ fins) × (fins ≤ 2)) ⊎ ((5 ≤ stage) × (fins ≡ 3)))
+pub data Fins (stage fins : ℕ) : Type 0 where
+  to-3 : stage ≤ 3 → fins ≡ 0 → Fins stage fins
+  in-4 : stage ≡ 4 → 1 ≤ fins → fins ≤ 2 → Fins stage fins
+  in-5 : stage ≡ 5 → fins ≡ 3 → Fins stage fins
+  from-6 : 6 ≤ stage → fins ≤ 3 → Fins stage fins
 
 pub soundFins-true : (stage fins : ℕ) → soundFins stage fins ≡ true → Fins stage fins
 soundFins-true stage fins e =
     ⊎-elim
-    (λ (h : stage < 4). let p : stage ≤ 3 = omega arith in inl (p, eqb-true _ _ (sym (soundFins-to-3 stage fins p) ∙ e)))
+    (λ (h : stage < 4). let p : stage ≤ 3 = omega arith in to-3 p (eqb-true _ _ (sym (soundFins-to-3 stage fins p) ∙ e)))
     (λ (h : 4 ≤ stage).
     ⊎-elim
     (λ (g : stage < 5).
     let p : stage ≡ 4 = omega arith in
     let q = &&-true (1 ≤ᵇ fins) (fins ≤ᵇ 2) (sym (soundFins-in-4 stage fins p) ∙ e) in
-    inr (inl (p, leb-true 1 fins (q .0), leb-true fins 2 (q .1))))
-    (λ (g : 5 ≤ stage). inr (inr (g, eqb-true _ _ (sym (soundFins-from-5 stage fins g) ∙ e))))
+    in-4 p (leb-true 1 fins (q .0)) (leb-true fins 2 (q .1)))
+    (λ (g : 5 ≤ stage).
+    ⊎-elim
+    (λ (f : stage < 6). let p : stage ≡ 5 = omega arith in in-5 p (eqb-true _ _ (sym (soundFins-in-5 stage fins p) ∙ e)))
+    (λ (f : 6 ≤ stage). from-6 f (leb-true _ _ (sym (soundFins-from-6 stage fins f) ∙ e)))
+    (lt-or-ge stage 6))
     (lt-or-ge stage 5))
     (lt-or-ge stage 4)
 
 pub soundFins≤3 : (stage fins : ℕ) → soundFins stage fins ≡ true → fins ≤ 3
-unfolding soundFins
-soundFins≤3 stage fins sound =
-    if-either (λ t. t ≡ true → fins ≤ 3) _ _ _ (λ e. omega (arith, eqb-true fins 0 e))
-    (if-either (λ t. t ≡ true → fins ≤ 3) _ _ _ (λ e. omega (arith, leb-true fins 2 (&&-true (1 ≤ᵇ fins) (fins ≤ᵇ 2) e .1))) (λ e. omega (arith, eqb-true fins 3 e)))
-    sound
+soundFins≤3 stage fins sound = go (soundFins-true stage fins sound)
+  where
+    go : Fins stage fins → fins ≤ 3
+    go (to-3 _ none) = omega arith
+    go (in-4 _ _ most) = omega arith
+    go (in-5 _ both) = omega arith
+    go (from-6 _ most) = most
 
 withFin≤3 : (fins i : ℕ) → fins ≤ 3 → withFin fins i ≤ 3
 unfolding withFin if_then_else_
@@ -74,7 +91,7 @@ finsAfter≤3 fins i f small = if-either (λ n. n ≤ 3) _ _ _ (withFin≤3 fins
 -- a stage that is sound with its FIN bits
 pub record SoundStage (stage fins : ℕ) : Type 0 where
   pub some : 1 ≤ stage
-  pub most : stage ≤ 5
+  pub most : stage ≤ 6
   pub bits : soundFins stage fins ≡ true
 
 soundStage-to-3 : (stage : ℕ) → 1 ≤ stage → stage ≤ 3 → SoundStage stage 0
@@ -94,6 +111,10 @@ stageAfter-sound stage (suc zero) i f small = record { some = omega arith; most 
 stageAfter-sound stage (suc (suc zero)) i f small = record { some = omega arith; most = omega arith; bits = refl }
 stageAfter-sound stage (suc (suc (suc zero))) i f small = record { some = omega arith; most = omega arith; bits = refl }
 stageAfter-sound stage (suc (suc (suc (suc fins)))) i f small = absurd (omega arith)
+
+-- a reset leaves the FIN bits of any stage
+pub reset-sound : (fins : ℕ) → fins ≤ 3 → SoundStage 6 fins
+reset-sound fins small = record { some = omega arith; most = omega arith; bits = soundFins-from-6 6 fins (omega arith) ∙ le-leb fins 3 small }
 
 -- One record
 
@@ -126,12 +147,13 @@ lifeOf≤ stage =
     if-either (λ n. n ≤ longestLife) _ _ _ (omega arith)
     (if-either (λ n. n ≤ longestLife) _ _ _ (omega arith)
     (if-either (λ n. n ≤ longestLife) _ _ _ (omega arith)
-    (if-either (λ n. n ≤ longestLife) _ _ _ (omega arith) (omega arith))))
+    (if-either (λ n. n ≤ longestLife) _ _ _ (omega arith)
+    (if-either (λ n. n ≤ longestLife) _ _ _ (omega arith) (omega arith)))))
 
 -- what soundness says, fact by fact
 pub record Facts (clock : ℕ) (c : Connection) : Type 0 where
   pub stage-some : 1 ≤ c .stage
-  pub stage-most : c .stage ≤ 5
+  pub stage-most : c .stage ≤ 6
   pub side : c .side ≤ 1
   pub fins : soundFins (c .stage) (c .fins) ≡ true
   pub deadline : c .deadline ≤ clock + longestLife
@@ -143,7 +165,7 @@ pub sound-facts : (clock : ℕ) (c : Connection) → soundConnection clock c ≡
 unfolding soundConnection
 sound-facts clock c sound =
     let a1 = &&-true (1 ≤ᵇ c .stage) _ sound in
-    let a2 = &&-true (c .stage ≤ᵇ 5) _ (a1 .1) in
+    let a2 = &&-true (c .stage ≤ᵇ 6) _ (a1 .1) in
     let a3 = &&-true (c .side ≤ᵇ 1) _ (a2 .1) in
     let a4 = &&-true (soundFins (c .stage) (c .fins)) _ (a3 .1) in
     let a5 = &&-true (c .deadline ≤ᵇ clock + longestLife) _ (a4 .1) in
@@ -151,7 +173,7 @@ sound-facts clock c sound =
     let a7 = &&-true (soundEnd (sender (c .ends) 1)) _ (a6 .1) in
     record {
       stage-some = leb-true 1 (c .stage) (a1 .0);
-      stage-most = leb-true (c .stage) 5 (a2 .0);
+      stage-most = leb-true (c .stage) 6 (a2 .0);
       side = leb-true (c .side) 1 (a3 .0);
       fins = a4 .0;
       deadline = leb-true (c .deadline) (clock + longestLife) (a5 .0);
@@ -165,7 +187,7 @@ unfolding soundConnection
 facts-sound clock c f =
     rw (
       le-leb 1 (c .stage) (f .stage-some),
-      le-leb (c .stage) 5 (f .stage-most),
+      le-leb (c .stage) 6 (f .stage-most),
       le-leb (c .side) 1 (f .side),
       f .fins,
       le-leb (c .deadline) (clock + longestLife) (f .deadline),

@@ -1,7 +1,7 @@
 -- The test for 1 or 2, of stages and of FIN bits, a flag that is not set, lives, and the stages that a pass leaves.
 use Prim.Native.Nat.{ℕ, zero, suc, _≤_, _<_}
 use mathlib.Core.Path.{_≡_, refl, _∙_}
-use mathlib.Core.Bool.{Bool, true, false, _&&_, not}
+use mathlib.Core.Bool.{Bool, true, false, _&&_, _||_, not}
 use native.Mathlib.Omega.{arith}
 use borrow.Author.Tests.{le-leb, lt-leb, leb-true, eq-eqb, ne-eqb, eqb-true, eqb-false}
 use Rattle.choice.specs.Choice.{if_then_else_, _≤ᵇ_, _=ᵇ_}
@@ -26,16 +26,17 @@ clear-flag b bit = go (b =ᵇ 1) refl
     go true e = ne-eqb b 0 (λ (z : b ≡ 0). omega (arith, eqb-true b 1 e))
     go false e = eq-eqb b 0 (omega (arith, eqb-false b 1 e))
 
--- outside 1 to 5 there is no life
-pub lifeOf-outside : (stage : ℕ) → (1 ≤ stage → 5 < stage) → lifeOf stage ≡ 0
+-- outside 1 to 6 there is no life
+pub lifeOf-outside : (stage : ℕ) → (1 ≤ stage → 6 < stage) → lifeOf stage ≡ 0
 unfolding lifeOf
 lifeOf-outside stage outside =
     if-false _ _ _ (not-one-or-two stage (λ low. omega (arith, outside low)))
     ∙ if-=-not _ _ (λ (e : stage ≡ 3). omega (arith, outside (omega arith)))
     ∙ if-=-not _ _ (λ (e : stage ≡ 4). omega (arith, outside (omega arith)))
     ∙ if-=-not _ _ (λ (e : stage ≡ 5). omega (arith, outside (omega arith)))
+    ∙ if-=-not _ _ (λ (e : stage ≡ 6). omega (arith, outside (omega arith)))
 
-pub 1≤lifeOf : (stage : ℕ) → 1 ≤ stage → stage ≤ 5 → 1 ≤ lifeOf stage
+pub 1≤lifeOf : (stage : ℕ) → 1 ≤ stage → stage ≤ 6 → 1 ≤ lifeOf stage
 unfolding lifeOf if_then_else_
 1≤lifeOf zero low high = absurd (omega arith)
 1≤lifeOf (suc zero) low high = omega arith
@@ -43,7 +44,12 @@ unfolding lifeOf if_then_else_
 1≤lifeOf (suc (suc (suc zero))) low high = omega arith
 1≤lifeOf (suc (suc (suc (suc zero)))) low high = omega arith
 1≤lifeOf (suc (suc (suc (suc (suc zero))))) low high = omega arith
-1≤lifeOf (suc (suc (suc (suc (suc (suc stage)))))) low high = absurd (omega arith)
+1≤lifeOf (suc (suc (suc (suc (suc (suc zero)))))) low high = omega arith
+1≤lifeOf (suc (suc (suc (suc (suc (suc (suc stage))))))) low high = absurd (omega arith)
+
+-- neither 3 nor 6, the stages from which an open connection goes on as 3
+pub not-open : (stage : ℕ) → (stage ≡ 3 → ⊥) → (stage ≡ 6 → ⊥) → ((stage =ᵇ 3) || (stage =ᵇ 6)) ≡ false
+not-open stage not-3 not-6 = rw (ne-eqb stage 3 not-3, ne-eqb stage 6 not-6)
 
 module _ (stage fins i f : ℕ) where
   pub stageAfter≥2 : 2 ≤ stageAfter stage fins i f

@@ -99,11 +99,21 @@ carried c i g now = record {
   ends = endsAfter (c .ends) i g;
 }
 
--- a passed RST, in any stage, frees; else what passed in stage 1 is the opener's same SYN again or the answerer's SYN+ACK, and
--- from stage 2 on any segment is carried
+-- from stage 2 on, a passed reset gives stage 6, and changes none of the six numbers and no FIN bit (document 02, item 6)
+unfoldable pub reset : Connection → ℕ → Connection
+reset c now = record {
+  stage = 6;
+  side = c .side;
+  fins = c .fins;
+  deadline = now + lifeOf 6;
+  ends = c .ends;
+}
+
+-- a passed RST resets from stage 2 on, and still frees in stage 1; else what passed in stage 1 is the opener's same SYN again or the
+-- answerer's SYN+ACK, and from stage 2 on any segment is carried
 unfoldable pub passed : Connection → ℕ → Segment → ℕ → Connection
 passed c i g now =
-    if isReset (g .flags) then free
+    if isReset (g .flags) then (if c .stage ≠ᵇ 1 then reset c now else free)
     else if c .stage ≠ᵇ 1 then carried c i g now
     else if i =ᵇ opener then repeated c g now
     else answered c g now

@@ -1,6 +1,6 @@
--- Stages and their lives (document 01, "Stages" and "The table").
+-- Stages and their lives (document 01, "Stages" and "The table"; stage 6 is document 02's, item 6).
 use Prim.Native.Nat.{ℕ, _+_, _/_, _%_}
-use mathlib.Core.Bool.{_&&_}
+use mathlib.Core.Bool.{_&&_, _||_}
 use Rattle.choice.specs.Choice.{if_then_else_, _≤ᵇ_, _=ᵇ_}
 use Rattle.segment.specs.Flags.{fin, syn, ack}
 use Rattle.connection.specs.Ends.{opener}
@@ -9,13 +9,14 @@ use Rattle.connection.specs.Ends.{opener}
 abbrev pub longestLife : ℕ
 longestLife = 432000000
 
--- life of a stage, in ms: 1 and 2: 60,000; 3: 432,000,000; 4: 3,600,000; 5: 240,000. No sound entry has another stage
+-- life of a stage, in ms: 1 and 2: 60,000; 3: 432,000,000; 4: 3,600,000; 5: 240,000; 6: 10,000. No sound entry has another stage
 unfoldable pub lifeOf : ℕ → ℕ
 lifeOf stage =
     if (1 ≤ᵇ stage) && (stage ≤ᵇ 2) then 60000
     else if stage =ᵇ 3 then longestLife
     else if stage =ᵇ 4 then 3600000
     else if stage =ᵇ 5 then 240000
+    else if stage =ᵇ 6 then 10000
     else 0
 
 -- the FIN bits with sender i's set: bit 0 the opener's, bit 1 the answerer's
@@ -28,10 +29,10 @@ withFin fins i =
 unfoldable pub finsAfter : ℕ → ℕ → ℕ → ℕ
 finsAfter fins i f = if fin f =ᵇ 1 then withFin fins i else fins
 
--- with no FIN bit: 3 if it was 3 or the opener sent ACK without SYN, else 2
+-- with no FIN bit: 3 if it was 3 or the opener sent ACK without SYN, else 2; and from stage 6 it returns to 3 (document 02, item 6)
 unfoldable pub openStage : ℕ → ℕ → ℕ → ℕ
 openStage stage i f =
-    if stage =ᵇ 3 then 3
+    if (stage =ᵇ 3) || (stage =ᵇ 6) then 3
     else if (i =ᵇ opener) && ((ack f =ᵇ 1) && (syn f =ᵇ 0)) then 3
     else 2
 

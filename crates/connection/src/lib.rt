@@ -1,10 +1,10 @@
-// One connection by value: the decision on a segment of it, and what a pass leaves (document 01, "Ranges" and "Stages").
+// One connection by value: the decision on a segment of it, and what a pass leaves (document 01, "Ranges" and "Stages"; document 02, item 6).
 ghost use mathlib.Core.Path.{_≡_};
 ghost use Prim.Native.Nat.{_^_, _<_, _≤_};
 ghost use Rattle.connection.specs.Ends.{effectiveWindow, sent, granted, begun, widened, endsAfter};
 ghost use Rattle.connection.specs.Ranges.{sequenceMet, ackRange, ackMet};
 ghost use Rattle.connection.specs.Stages.{longestLife, lifeOf, withFin, finsAfter, openStage, stageAfter};
-ghost use Rattle.connection.specs.Decision.{sameSyn, reply, verdictUnanswered, verdictByRanges, verdictOn, verdictNumber, answerOn, free, opened, repeated, answered, carried, passed, decided};
+ghost use Rattle.connection.specs.Decision.{sameSyn, reply, verdictUnanswered, verdictByRanges, verdictOn, verdictNumber, answerOn, free, opened, repeated, answered, carried, reset, passed, decided};
 use segment::Segment;
 use serial::OctetCount;
 use serial::SeqNum;
@@ -20,7 +20,7 @@ pub struct End {
 }
 
 pub struct Connection {
-    // 1 unanswered, 2 answered, 3 open, 4 one FIN, 5 both; 0 is a free connection.
+    // 1 unanswered, 2 answered, 3 open, 4 one FIN, 5 both, 6 reset; 0 is a free connection.
     pub stage: u8,
     // The side that the opener is on.
     pub side: u8,
@@ -71,6 +71,7 @@ pub fn life(stage: u8) -> u64
         3 => 432_000_000,
         4 => 3_600_000,
         5 => 240_000,
+        6 => 10_000,
         _ => 0,
     }
 }
@@ -206,6 +207,7 @@ fn open_stage(stage: u8, sender: usize, segment: Segment) -> u8
 {
     match stage {
         3 => 3,
+        6 => 3,
         _ => {
             if sender != 0 {
                 return 2;
@@ -429,14 +431,35 @@ impl Connection {
         }
     }
 
-    // The connection that a pass at this clock used leaves; a reset frees it.
+    // After a reset from stage 2 on: the far end may not get it, so the connection goes on as it was, for a short life.
+    fn reset(self, clock: u64) -> Connection
+        requires { ⌜ clock < 2 ^ 48 ⌝ }
+        ensures { λ r. ⌜ r ≡ reset self clock ⌝ }
+    {
+        let side = self.side;
+        let fins = self.fins;
+        let ends = self.ends;
+        let deadline = clock + life(6);
+        Connection {
+            stage: 6,
+            side: side,
+            fins: fins,
+            deadline: deadline,
+            ends: ends,
+        }
+    }
+
+    // The connection that a pass at this clock used leaves; a reset in stage 1 frees it.
     fn passed(self, sender: usize, segment: Segment, clock: u64) -> Connection
         requires { ⌜ (sender < 2) × (clock < 2 ^ 48) ⌝ }
         ensures { λ r. ⌜ r ≡ passed self sender segment clock ⌝ }
     {
         let stage = self.stage;
         if segment.has_rst() {
-            return no_connection();
+            return match stage {
+                1 => no_connection(),
+                _ => self.reset(clock),
+            };
         }
         match stage {
             1 => match sender {
