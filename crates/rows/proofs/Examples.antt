@@ -7,13 +7,13 @@ use Rattle.address.specs.Flows.{sameFlow}
 use Rattle.connection.specs.Ends.{sent, granted, endsAfter}
 use Rattle.connection.specs.Ranges.{sequenceMet, ackMet}
 use Rattle.connection.specs.Stages.{lifeOf, withFin, finsAfter, openStage, stageAfter}
-use Rattle.connection.specs.Decision.{sameSyn, reply, verdictUnanswered, verdictByRanges, verdictOn, opened, repeated, answered, carried, passed}
+use Rattle.connection.specs.Decision.{sameSyn, reply, verdictUnanswered, verdictByRanges, verdictOn, opened, repeated, answered, carried, reset, passed}
 use Rattle.rows.specs.Places.{firstFrom}
 use Rattle.rows.specs.Rows.{fromOpener, fromAnswerer, liveMatch, vacant, senderOf, entryWith, onEntry, openingEntry, unmatched, onSegment}
 use Rattle.rows.specs.Examples.{RowsGive}
 
 pub rows-give : RowsGive
-unfolding if_then_else_ wrap ringPlus ringMinus nearest further sent granted endsAfter sequenceMet ackMet lifeOf withFin finsAfter openStage stageAfter sameSyn reply verdictUnanswered verdictByRanges verdictOn opened repeated answered carried passed firstFrom fromOpener fromAnswerer liveMatch vacant senderOf entryWith onEntry openingEntry unmatched onSegment sameFlow
+unfolding if_then_else_ wrap ringPlus ringMinus nearest further sent granted endsAfter sequenceMet ackMet lifeOf withFin finsAfter openStage stageAfter sameSyn reply verdictUnanswered verdictByRanges verdictOn opened repeated answered carried reset passed firstFrom fromOpener fromAnswerer liveMatch vacant senderOf entryWith onEntry openingEntry unmatched onSegment sameFlow
 rows-give = record {
   match-first = refl;
   match-expired = refl;
@@ -44,5 +44,6 @@ rows-give = record {
   set-back-clock = refl;
   set-back-entry = refl;
   left-opening = refl;
+  left-freed = refl;
   left-reset = refl;
 }

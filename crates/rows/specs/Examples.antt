@@ -135,6 +135,8 @@ pub record RowsGive : Type 0 where
   -- clock used: the larger of the one given and the header's, 90
   pub set-back-clock : left busy (tenOctets 80) .clock ≡ 90
   pub set-back-entry : left busy (tenOctets 80) .entry 0 ≡ entry outward (connection 0 3 432000090 (numbers 111 2101 1000) (numbers 501 1501 2000))
-  -- opening SYN: stage 1; a passed RST frees the entry, addresses and ports too
+  -- opening SYN: stage 1; what a pass frees is free, addresses and ports too: the answerer's ACK+RST in stage 1
   pub left-opening : left busy strangersSyn .entry 0 ≡ entry stranger (connection 0 1 60100 (numbers 8 8 1000) (numbers 0 0 1))
-  pub left-reset : left busy (call 0 100 outward ACK+RST 101 0 501 1000) .entry 1 ≡ entry noFlow free
+  pub left-freed : left full (call 1 100 (reversed outward) ACK+RST 501 0 101 1000) .entry 0 ≡ entry noFlow free
+  -- a reset from stage 2 on leaves stage 6 and every number, its own ten octets and wider window uncounted
+  pub left-reset : left busy (call 0 100 outward ACK+RST 101 10 501 3000) .entry 1 ≡ entry outward (connection 0 6 10100 (numbers 101 2101 1000) (numbers 501 501 2000))
