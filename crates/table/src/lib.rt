@@ -270,8 +270,8 @@ pub fn vacant(version: Version, table: &[u8], places: usize, clock: u64) -> Foun
 
 // An entry's first four octets as one word: stage + 256·side + 65,536·FIN bits, the zero byte above them. `k` leaves out the side's
 // one bit, so that both sides are asked at once. Sound are 1 to 3 (stages 1 to 3 without FIN bits), 65,540 and 131,076 (stage 4 with
-// FIN bits 1 or 2) and 196,613 (stage 5 with FIN bits 3). 1 to 3 are the usual ones, so they come first, in a `match` of
-// their own: the compiler tests a `match`'s single numbers before its ranges.
+// FIN bits 1 or 2), 196,613 (stage 5 with FIN bits 3), and 6, 65,542, 131,078 and 196,614 (stage 6 with FIN bits 0 to 3). 1 to 3 are
+// the usual ones, so they come first, in a `match` of their own: the compiler tests a `match`'s single numbers before its ranges.
 fn sound_word(w: u32) -> bool
     ensures { λ r. ⌜ r ≡ soundWord w ⌝ }
 {
@@ -282,6 +282,10 @@ fn sound_word(w: u32) -> bool
             65_540 => true,
             131_076 => true,
             196_613 => true,
+            6 => true,
+            65_542 => true,
+            131_078 => true,
+            196_614 => true,
             _ => false,
         },
     }
