@@ -1,6 +1,6 @@
 -- Demand 2 for one connection.
 use Prim.Native.Nat.{ℕ, zero, suc, _+_, _-_, _^_, _<_, _≤_}
-use mathlib.Core.Path.{_≡_, refl, ap, _∙_}
+use mathlib.Core.Path.{_≡_, refl, sym, ap, _∙_}
 use mathlib.Core.Bool.{Bool, true, false}
 use mathlib.Core.Logic.{_⊎_, inl, inr, ⊎-elim}
 use mathlib.Core.List.{List, [], _∷_}
@@ -8,7 +8,7 @@ use native.Mathlib.Omega.{arith}
 use lib.Dec.{eqb}
 use borrow.Author.Tests.{eqb-true, eqb-false}
 use Rattle.choice.specs.Choice.{if_then_else_}
-use Rattle.choice.proofs.Choice.{if-=, if-=-not}
+use Rattle.choice.proofs.Choice.{if-=, if-=-not, if-≠-not}
 use Rattle.serial.specs.Ring.{wrap, nearest}
 use Rattle.serial.proofs.Ring.{wrap-id, wrap-turn, wrap-nearest, nearest-near}
 use Rattle.segment.specs.Flags.{rst, ack, SYN}
@@ -19,11 +19,11 @@ use Rattle.connection.specs.declared.Connection.{Connection}
 use Rattle.connection.specs.declared.Verdict.{Verdict}
 use Rattle.connection.specs.declared.Verdict.the-variants.{Pass, NotAllowed, SequenceMissed, AckMissed}
 use Rattle.history.specs.Numbers.{Numbers}
-use Rattle.history.specs.History.{LineSegment, numbersOf, onWire, standsBy, placedBy, placed, judge, Holds, Formed, Placeable}
-use Rattle.history.specs.Demand2.{Presented, Presentable, AllPresentable, onLine, answerTo, judgedOver, leftBy, isPass, connectionAfter, historyAfter, NoReset, openingHistory, Agree, Demand2OfConnection}
+use Rattle.history.specs.History.{LineSegment, numbersOf, onWire, stageOf, standsBy, placedBy, placed, judge, Holds, Formed, Placeable}
+use Rattle.history.specs.Demand2.{Presented, Presentable, AllPresentable, onLine, answerTo, judgedOver, leftBy, isPass, connectionAfter, historyAfter, NoneFreed, openingHistory, Agree, Demand2OfConnection}
 use Rattle.history.proofs.Step.{Near}
 use Rattle.history.proofs.Verdict.{Unanswered, Answered, judged-answered, judged-unanswered}
-use Rattle.history.proofs.Pass.{opener-begins, opened-unanswered, opened-holds, answerer-begins, carried-holds, carried-answered, repeated-holds, repeated-unanswered, answered-holds, answered-answered}
+use Rattle.history.proofs.Pass.{opener-begins, opened-unanswered, opened-holds, answerer-begins, carried-holds, carried-answered, reset-holds, reset-answered, passed-reset, repeated-holds, repeated-unanswered, answered-holds, answered-answered}
 
 -- Where a segment stands
 
@@ -99,6 +99,15 @@ module _ (c : Connection) (h : List LineSegment) (holds : Holds c h) (reached : 
   pub judged : verdictOn c (o .sender) (o .segment) ≡ judge h (onLine h o)
   judged = rw wire at (judged-on-wire reached)
 
+  -- a reset from stage 2 on
+  reset-reached : Reached h → (stageOf h ≡ 1 → ⊥) → rst (o .segment .flags) ≡ 1 → Holds (leftBy c o) (onLine h o ∷ h) × Reached (onLine h o ∷ h)
+  reset-reached (unanswered u turned) later is-reset = absurd (later (u .stage))
+  reset-reached (answered a turned) later is-reset =
+      let left = passed-reset c (o .sender) (o .segment) (o .now) is-reset (λ e. later (sym (holds .stage) ∙ e)) in (
+        rw left (reset-holds h (onLine h o) is-reset a c holds (o .now)),
+        answered (reset-answered h (onLine h o) is-reset a) (λ i s. omega (arith, turned i s, numbers-rise i (onLine h o) h)),
+      )
+
   -- a pass that is no reset
   module _ (no-reset : rst (o .segment .flags) ≡ 1 → ⊥) (pass : judge h (onLine h o) ≡ Pass) where
     -- a line that begins, begins a turn up
@@ -132,23 +141,33 @@ module _ (c : Connection) (h : List LineSegment) (holds : Holds c h) (reached : 
           (λ i s. omega (arith, turned i s, numbers-rise i (onLine h o) h)),
     )
 
-    pub pass-holds : Holds (leftBy c o) (onLine h o ∷ h) × Reached (onLine h o ∷ h)
-    pass-holds = rw wire at (on-wire-holds reached)
+    carried-reached : Holds (leftBy c o) (onLine h o ∷ h) × Reached (onLine h o ∷ h)
+    carried-reached = rw wire at (on-wire-holds reached)
 
--- a reset frees, in any stage
-pub reset-frees : (c : Connection) (o : Presented) → rst (o .segment .flags) ≡ 1 → leftBy c o ≡ free
+  -- a pass that does not free
+  pub pass-holds :
+      (stageOf h ≡ 1 → rst (o .segment .flags) ≡ 1 → ⊥) → judge h (onLine h o) ≡ Pass →
+      Holds (leftBy c o) (onLine h o ∷ h) × Reached (onLine h o ∷ h)
+  pass-holds kept pass = by-reset (eqb (rst (o .segment .flags)) 1) refl
+    where
+      by-reset : (t : Bool) → eqb (rst (o .segment .flags)) 1 ≡ t → Holds (leftBy c o) (onLine h o ∷ h) × Reached (onLine h o ∷ h)
+      by-reset true e = let is-reset = eqb-true _ _ e in reset-reached reached (λ first. kept first is-reset) is-reset
+      by-reset false e = carried-reached (eqb-false _ _ e) pass
+
+-- a reset in stage 1 frees
+pub reset-frees : (c : Connection) (i : ℕ) (g : Segment) (now : ℕ) → c .stage ≡ 1 → rst (g .flags) ≡ 1 → passed c i g now ≡ free
 unfolding passed
-reset-frees c o reset = if-= _ _ reset
+reset-frees c i g now first is-reset = if-= _ _ is-reset ∙ if-≠-not _ _ first
 
 -- The theorem, from any history reached
 
 module _ (c : Connection) (h : List LineSegment) (holds : Holds c h) (reached : Reached h) (o : Presented) (legal : Presentable o) where
-  module _ (no-reset : judgedOver h o ≡ Pass → rst (o .segment .flags) ≡ 1 → ⊥) where
+  module _ (kept : judgedOver h o ≡ Pass → stageOf h ≡ 1 → rst (o .segment .flags) ≡ 1 → ⊥) where
     by-answer :
         (v : Verdict) → judgedOver h o ≡ v →
         let h' = if isPass v then onLine h o ∷ h else h in Holds (if isPass v then leftBy c o else c) h' × Reached h'
     unfolding if_then_else_
-    by-answer Pass e = pass-holds c h holds reached o legal (no-reset e) e
+    by-answer Pass e = pass-holds c h holds reached o legal (kept e) e
     by-answer NotAllowed e = (holds, reached)
     by-answer SequenceMissed e = (holds, reached)
     by-answer AckMissed e = (holds, reached)
@@ -157,16 +176,20 @@ module _ (c : Connection) (h : List LineSegment) (holds : Holds c h) (reached : 
     step = rw (judged c h holds reached o legal) (by-answer (judgedOver h o) refl)
 
   pub agree : Agree c h o
-  agree = record { holds = holds; answer = judged c h holds reached o legal; freed = λ pass reset. reset-frees c o reset }
+  agree = record {
+    holds = holds;
+    answer = judged c h holds reached o legal;
+    freed = λ pass first. reset-frees c (o .sender) (o .segment) (o .now) (holds .stage ∙ first);
+  }
 
 pub after-all :
-    (c : Connection) (h : List LineSegment) → Holds c h → Reached h → (l : List Presented) → AllPresentable l → NoReset h l →
+    (c : Connection) (h : List LineSegment) → Holds c h → Reached h → (l : List Presented) → AllPresentable l → NoneFreed h l →
     Holds (connectionAfter c l) (historyAfter h l) × Reached (historyAfter h l)
-unfolding AllPresentable NoReset connectionAfter historyAfter
-after-all c h holds reached [] legal no-reset = (holds, reached)
-after-all c h holds reached (o ∷ l) legal no-reset =
-    let before = after-all c h holds reached l (legal .1) (no-reset .0) in
-    step (connectionAfter c l) (historyAfter h l) (before .0) (before .1) o (legal .0) (no-reset .1)
+unfolding AllPresentable NoneFreed connectionAfter historyAfter
+after-all c h holds reached [] legal none-freed = (holds, reached)
+after-all c h holds reached (o ∷ l) legal none-freed =
+    let before = after-all c h holds reached l (legal .1) (none-freed .0) in
+    step (connectionAfter c l) (historyAfter h l) (before .0) (before .1) o (legal .0) (none-freed .1)
 
 -- From an opening
 
@@ -188,6 +211,6 @@ module _ (side : ℕ) (g : Segment) (now : ℕ) (r : Placeable g) (a-syn : g .fl
       unanswered (opened-unanswered (placed [] 0 g) refl a-syn formed-first) (omega (arith, up, end))
 
 pub demand2-of-connection : Demand2OfConnection
-demand2-of-connection side g now r a-syn l legal no-reset o next =
-    let k = after-all (opened side g now) (openingHistory g) (holds-first side g now r a-syn) (reached-first side g now r a-syn) l legal no-reset in
+demand2-of-connection side g now r a-syn l legal none-freed o next =
+    let k = after-all (opened side g now) (openingHistory g) (holds-first side g now r a-syn) (reached-first side g now r a-syn) l legal none-freed in
     agree (connectionAfter (opened side g now) l) (historyAfter (openingHistory g) l) (k .0) (k .1) o next

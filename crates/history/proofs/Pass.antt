@@ -1,13 +1,13 @@
 -- A pass: the connection that it leaves holds the history with the segment on top.
 use Prim.Native.Nat.{ℕ, zero, suc, _+_, _-_, _<_, _≤_, max}
 use mathlib.Core.Path.{_≡_, refl, sym, ap, _∙_}
-use mathlib.Core.Bool.{Bool, true, false, _&&_, _||_, not}
+use mathlib.Core.Bool.{Bool, true, false, _&&_, _||_, not, and-false}
 use mathlib.Core.List.{List, [], _∷_}
 use native.Mathlib.Omega.{arith}
 use lib.Dec.{eqb}
 use borrow.Author.Tests.{eq-eqb, ne-eqb, eqb-true, eqb-false, leb-true}
 use Rattle.choice.specs.Choice.{if_then_else_, _≤ᵇ_, _=ᵇ_, _≠ᵇ_}
-use Rattle.choice.proofs.Choice.{if-true, if-false, if-either, if-=, if-=-not, if-≠, if-≠-not}
+use Rattle.choice.proofs.Choice.{if-true, if-false, if-either, if-=, if-=-not, if-≠, if-≠-not, if-≤}
 use Rattle.choice.proofs.Tests.{false-true, &&-true}
 use Rattle.serial.specs.Ring.{wrap}
 use Rattle.serial.proofs.Ring.{wrap-plus}
@@ -16,7 +16,7 @@ use Rattle.segment.specs.declared.Segment.{Segment}
 use Rattle.connection.specs.Ends.{unheard, sender, sent, granted, begun, endsAfter}
 use Rattle.connection.specs.Ranges.{ackRange}
 use Rattle.connection.specs.Stages.{finsAfter, stageAfter}
-use Rattle.connection.specs.Decision.{opened, repeated, answered, carried, passed}
+use Rattle.connection.specs.Decision.{opened, repeated, answered, carried, reset, passed}
 use Rattle.connection.specs.declared.Connection.{Connection}
 use Rattle.connection.specs.declared.End.{End}
 use Rattle.connection.specs.declared.Verdict.the-variants.{Pass, NotAllowed, SequenceMissed, AckMissed}
@@ -107,7 +107,6 @@ spans-of-both x zero side f t = (f, t)
 spans-of-both x (suc zero) side f t = (t, f)
 spans-of-both x (suc (suc i)) side f t = absurd (omega arith)
 
--- a later segment never leads back to stage 1
 -- From stage 2 on
 
 -- a verdict of Pass says that the ranges were met
@@ -216,6 +215,48 @@ module _ (c : Connection) (h : List LineSegment) (holds : Holds c h) (p : LineSe
           opener = ends .0;
           answerer = ends .1;
         }
+
+-- A reset from stage 2 on
+
+module _ (h : List LineSegment) (p : LineSegment) (is-reset : rst (p .flags) ≡ 1) where
+  -- it counts for nothing
+  pub reset-numbers : (i : ℕ) → numbersOf i (p ∷ h) ≡ numbersOf i h
+  unfolding numbersOf
+  reset-numbers i =
+      let none : ((p .from =ᵇ i) && (rst (p .flags) ≠ᵇ 1)) ≡ false = rw (eq-eqb (rst (p .flags)) 1 is-reset) (and-false (p .from =ᵇ i)) in
+      let end : max (numbersOf i h .end) (endBy i p) ≡ numbersOf i h .end = ap (max (numbersOf i h .end)) (if-false _ _ _ none) ∙ omega arith in
+      let edge : max (numbersOf i h .edge) (edgeBy i p) ≡ numbersOf i h .edge = ap (max (numbersOf i h .edge)) (if-= _ _ is-reset) ∙ omega arith in
+      let win : max (numbersOf i h .win) (windowBy i p) ≡ numbersOf i h .win = ap (max (numbersOf i h .win)) (if-false _ _ _ none) ∙ omega arith in
+      λ k. record { end = end k; edge = edge k; win = win k }
+
+  module _ (open-h : Answered h) where
+    pub reset-stage : stageOf (p ∷ h) ≡ 6
+    unfolding stageOf
+    reset-stage = if-= _ _ is-reset ∙ if-≤ _ _ (open-h .stage)
+
+    reset-fins : finsOf (p ∷ h) ≡ finsOf h
+    unfolding finsOf
+    reset-fins = if-= _ _ is-reset
+
+    pub reset-answered : Answered (p ∷ h)
+    reset-answered = record {
+      stage = rw reset-stage (omega arith);
+      opener = rw (reset-numbers 0) (open-h .opener);
+      answerer = rw (reset-numbers 1) (open-h .answerer);
+    }
+
+    pub reset-holds : (c : Connection) → Holds c h → (now : ℕ) → Holds (reset c now) (p ∷ h)
+    unfolding reset
+    reset-holds c holds now = record {
+      stage = sym reset-stage;
+      fins = holds .fins ∙ sym reset-fins;
+      ends = rw (reset-numbers 0, reset-numbers 1) (holds .ends);
+    }
+
+-- what a passed reset leaves then
+pub passed-reset : (c : Connection) (i : ℕ) (g : Segment) (now : ℕ) → rst (g .flags) ≡ 1 → (c .stage ≡ 1 → ⊥) → passed c i g now ≡ reset c now
+unfolding passed
+passed-reset c i g now is-reset later = if-= _ _ is-reset ∙ if-≠ _ _ later
 
 -- In stage 1
 

@@ -172,8 +172,8 @@ by-all-places h (unanswered u turned) later i side g r = absurd (omega (arith, u
 by-all-places h (answered a turned) later i side g r = judged-by-all-places h a turned i side g r
 
 pub uniqueness : Uniqueness
-uniqueness side g now placeable a-syn l legal no-reset later o next =
-    let k = after-all (opened side g now) (openingHistory g) (holds-first side g now placeable a-syn) (reached-first side g now placeable a-syn) l legal no-reset in
+uniqueness side g now placeable a-syn l legal none-freed later o next =
+    let k = after-all (opened side g now) (openingHistory g) (holds-first side g now placeable a-syn) (reached-first side g now placeable a-syn) l legal none-freed in
     let h = historyAfter (openingHistory g) l in
     rw (judged (connectionAfter (opened side g now) l) h (k .0) (k .1) o next)
     (by-all-places h (k .1) later (o .sender) (next .sender-known) (o .segment) (next .placeable))

@@ -17,20 +17,20 @@ use Rattle.segment.specs.declared.Segment.{Segment}
 use Rattle.connection.specs.Ends.{sender, receiver, sent, granted, begun, endsAfter}
 use Rattle.connection.specs.Ranges.{sequenceMet, ackRange, ackMet}
 use Rattle.connection.specs.Stages.{finsAfter, stageAfter}
-use Rattle.connection.specs.Decision.{opened, repeated, answered, carried, passed, sameSyn, reply, verdictUnanswered, verdictByRanges, verdictOn}
+use Rattle.connection.specs.Decision.{opened, repeated, answered, carried, reset, passed, sameSyn, reply, verdictUnanswered, verdictByRanges, verdictOn}
 use Rattle.connection.specs.Sound.{soundEnd, soundUnanswered, soundConnection}
 use Rattle.connection.specs.declared.Connection.{Connection}
 use Rattle.connection.specs.declared.End.{End}
 use Rattle.connection.specs.declared.Verdict.the-variants.{Pass}
 use Rattle.connection.proofs.Stages.{stageAfter≥2}
-use Rattle.connection.proofs.Sound.{soundFins-to-3, soundFins≤3, finsAfter≤3, stageAfter-sound, soundEnd-true, true-soundEnd, widened-sound, unheard-sound, lifeOf≤, Facts, sound-facts, facts-sound}
+use Rattle.connection.proofs.Sound.{soundFins-to-3, soundFins≤3, finsAfter≤3, stageAfter-sound, reset-sound, soundEnd-true, true-soundEnd, widened-sound, unheard-sound, lifeOf≤, Facts, sound-facts, facts-sound}
 use Rattle.history.specs.Numbers.{Numbers, onRing}
 use Rattle.history.specs.History.{LineSegment, onWire, placedBy, Formed}
 use Rattle.history.specs.Kept.{OpenedSound, PassedSound}
 use Rattle.history.specs.Records.{SeqNumsFit, TwoEnds}
 use Rattle.history.proofs.Step.{Spans, Near, sequence-line, ackRange-small, ack-line, sent-line, granted-line, sentTo-spans, grantedTo-spans}
 use Rattle.history.proofs.Verdict.{two-sender, two-receiver}
-use Rattle.history.proofs.Pass.{begun-line, ranges-met, allowed, of-answerer}
+use Rattle.history.proofs.Pass.{begun-line, ranges-met, allowed, of-answerer, passed-reset}
 use Rattle.history.proofs.Demand2.{stands-near, onWire-placedBy, placed-formed, pick-two}
 
 -- One record
@@ -91,7 +91,7 @@ both-after P x i g side f t u = by-ack (eqb (ack (g .flags)) 1) refl i side f t 
     by-ack false e (suc zero) s f t u = rw (if-false (eqb (ack (g .flags)) 1) _ _ e) (u, f)
     by-ack b e (suc (suc i)) s f t u = absurd (omega arith)
 
-module _ (clock : ℕ) (c : Connection) (x : ℕ → End) (ends : TwoEnds c x) (sound : Facts clock c) (now : ℕ) (p : LineSegment) (formed : Formed p) (side : p .from < 2) (no-reset : rst (p .flags) ≡ 1 → ⊥) (pass : verdictOn c (p .from) (onWire p) ≡ Pass) where
+module _ (clock : ℕ) (c : Connection) (x : ℕ → End) (ends : TwoEnds c x) (sound : Facts clock c) (now : ℕ) (p : LineSegment) (formed : Formed p) (side : p .from < 2) (pass : verdictOn c (p .from) (onWire p) ≡ Pass) where
   sound-end : (i : ℕ) → i < 2 → soundEnd (x i) ≡ true
   sound-end = pick-two (λ k. soundEnd (x k) ≡ true)
       (rw (ends .two) at (sound .opener)) (rw (ends .two) at (sound .answerer))
@@ -141,9 +141,9 @@ module _ (clock : ℕ) (c : Connection) (x : ℕ → End) (ends : TwoEnds c x) (
     other-sound : ack (p .flags) ≡ 1 → soundEnd (granted (x (1 - p .from)) (onWire p)) ≡ true
     other-sound acks = granted-sound (x (1 - p .from)) p (fits (1 - p .from) other-side) formed (sound-end (1 - p .from) other-side) acked (acked-below acks)
 
-    pub carried-sound : soundConnection now (passed c (p .from) (onWire p) now) ≡ true
+    carried-sound : (rst (p .flags) ≡ 1 → ⊥) → soundConnection now (passed c (p .from) (onWire p) now) ≡ true
     unfolding passed carried soundUnanswered
-    carried-sound =
+    carried-sound no-reset =
         let g = onWire p in
         let fins = finsAfter≤3 (c .fins) (p .from) (p .flags) (soundFins≤3 (c .stage) (c .fins) (sound .fins)) in
         let stage = stageAfter-sound (c .stage) (finsAfter (c .fins) (p .from) (p .flags)) (p .from) (p .flags) fins in
@@ -161,9 +161,26 @@ module _ (clock : ℕ) (c : Connection) (x : ℕ → End) (ends : TwoEnds c x) (
           unanswered = if-=-not _ _ (λ (e : stageAfter (c .stage) (finsAfter (c .fins) (p .from) (p .flags)) (p .from) (p .flags) ≡ 1). omega (arith, stageAfter≥2 (c .stage) (finsAfter (c .fins) (p .from) (p .flags)) (p .from) (p .flags)));
         })
 
+  -- a reset leaves the records as they are
+  reset-leaves-sound : (c .stage ≡ 1 → ⊥) → rst (p .flags) ≡ 1 → soundConnection now (passed c (p .from) (onWire p) now) ≡ true
+  unfolding reset soundUnanswered
+  reset-leaves-sound later is-reset =
+      let stage = reset-sound (c .fins) (soundFins≤3 (c .stage) (c .fins) (sound .fins)) in
+      rw (passed-reset c (p .from) (onWire p) now is-reset later)
+      (facts-sound now (reset c now) record {
+        stage-some = stage .some;
+        stage-most = stage .most;
+        side = sound .side;
+        fins = stage .bits;
+        deadline = omega (arith, lifeOf≤ 6);
+        opener = sound .opener;
+        answerer = sound .answerer;
+        unanswered = if-=-not {a = 6} {b = 1} _ _ (λ (e : 6 ≡ 1). omega arith);
+      })
+
   -- the same SYN again, and the SYN+ACK
-  module _ (first : c .stage ≡ 1) where
-    pub repeated-sound : p .from ≡ 0 → soundConnection now (passed c (p .from) (onWire p) now) ≡ true
+  module _ (first : c .stage ≡ 1) (no-reset : rst (p .flags) ≡ 1 → ⊥) where
+    repeated-sound : p .from ≡ 0 → soundConnection now (passed c (p .from) (onWire p) now) ≡ true
     unfolding passed repeated soundUnanswered
     repeated-sound opener =
         let goes : passed c (p .from) (onWire p) now ≡ repeated c (onWire p) now = if-=-not _ _ no-reset ∙ if-≠-not _ _ first ∙ if-= _ _ opener in
@@ -188,7 +205,7 @@ module _ (clock : ℕ) (c : Connection) (x : ℕ → End) (ends : TwoEnds c x) (
         let same : x 0 .end .0 ≡ wrap (lifted (x 0) .end) = sym (wrap-turn (x 0 .end .0) ∙ wrap-id (x 0 .end .0) (ends .opener .end)) in
         wrap-injective (p .acked) (lifted (x 0) .end) (acked ∙ same) (omega (arith, near .high)) (omega (arith, near .low))
 
-    pub answered-sound : p .from ≡ 1 → Near (lifted (x 0) .end) (p .acked) → soundConnection now (passed c (p .from) (onWire p) now) ≡ true
+    answered-sound : p .from ≡ 1 → Near (lifted (x 0) .end) (p .acked) → soundConnection now (passed c (p .from) (onWire p) now) ≡ true
     unfolding passed answered soundUnanswered
     answered-sound answerer near =
         let goes : passed c (p .from) (onWire p) now ≡ answered c (onWire p) now = if-=-not _ _ no-reset ∙ if-≠-not _ _ first ∙ if-=-not _ _ (λ (e : p .from ≡ 0). omega arith) in
@@ -206,18 +223,30 @@ module _ (clock : ℕ) (c : Connection) (x : ℕ → End) (ends : TwoEnds c x) (
 
   by-stage :
       Near (lifted (x (p .from)) .end) (p .start) → Near (lifted (x (1 - p .from)) .end) (p .acked) →
+      (c .stage ≡ 1 → rst (p .flags) ≡ 1 → ⊥) →
       soundConnection now (passed c (p .from) (onWire p) now) ≡ true
-  by-stage start acked = cases (eqb (c .stage) 1) refl (eqb (p .from) 0) refl
+  by-stage start acked kept = cases (eqb (c .stage) 1) refl
     where
-      cases :
-          (t : Bool) → eqb (c .stage) 1 ≡ t → (u : Bool) → eqb (p .from) 0 ≡ u →
+      -- from stage 2 on
+      by-reset :
+          (c .stage ≡ 1 → ⊥) → (t : Bool) → eqb (rst (p .flags)) 1 ≡ t →
           soundConnection now (passed c (p .from) (onWire p) now) ≡ true
-      cases false e u e' = carried-sound (eqb-false (c .stage) 1 e) start acked
-      cases true e true e' = repeated-sound (eqb-true (c .stage) 1 e) (eqb-true (p .from) 0 e')
-      cases true e false e' =
-          let answerer : p .from ≡ 1 = omega (arith, eqb-false (p .from) 0 e') in
+      by-reset later true e = reset-leaves-sound later (eqb-true _ _ e)
+      by-reset later false e = carried-sound later start acked (eqb-false _ _ e)
+
+      -- in stage 1
+      by-sender :
+          (first : c .stage ≡ 1) (t : Bool) → eqb (p .from) 0 ≡ t →
+          soundConnection now (passed c (p .from) (onWire p) now) ≡ true
+      by-sender first true e = repeated-sound first (kept first) (eqb-true (p .from) 0 e)
+      by-sender first false e =
+          let answerer : p .from ≡ 1 = omega (arith, eqb-false (p .from) 0 e) in
           let none : 1 - p .from ≡ 0 = omega arith in
-          answered-sound (eqb-true (c .stage) 1 e) answerer (rw none at acked)
+          answered-sound first (kept first) answerer (rw none at acked)
+
+      cases : (t : Bool) → eqb (c .stage) 1 ≡ t → soundConnection now (passed c (p .from) (onWire p) now) ≡ true
+      cases false e = by-reset (eqb-false (c .stage) 1 e) (eqb (rst (p .flags)) 1) refl
+      cases true e = by-sender (eqb-true (c .stage) 1 e) (eqb (p .from) 0) refl
 
 -- The theorems
 
@@ -239,10 +268,10 @@ opened-sound side g now known r =
 
 -- a pass of a sound connection leaves it sound, unless it frees it
 pub passed-sound : PassedSound
-passed-sound clock c x ends sound i side g r now pass no-reset =
+passed-sound clock c x ends sound i side g r now pass kept =
     let E = lifted (x i) .end in
     let E' = lifted (x (1 - i)) .end in
     let wire = onWire-placedBy (lifted (x i) .end) (lifted (x (1 - i)) .end) i g r (inr (omega arith)) (inr (omega arith)) in
     ap (λ (k : Segment). soundConnection now (passed c i k now)) (sym wire)
-    ∙ by-stage clock c x ends (sound-facts clock c sound) now (placedBy E E' i g) (placed-formed E E' i g r) side no-reset (ap (verdictOn c i) wire ∙ pass)
-    (stands-near E (g .seq .0) (omega arith)) (stands-near E' (g .ack .0) (omega arith))
+    ∙ by-stage clock c x ends (sound-facts clock c sound) now (placedBy E E' i g) (placed-formed E E' i g r) side (ap (verdictOn c i) wire ∙ pass)
+    (stands-near E (g .seq .0) (omega arith)) (stands-near E' (g .ack .0) (omega arith)) kept

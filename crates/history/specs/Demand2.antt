@@ -61,26 +61,27 @@ historyAfter h [] = h
 historyAfter h (o ∷ l) =
     if isPass (judgedOver (historyAfter h l) o) then onLine (historyAfter h l) o ∷ historyAfter h l else historyAfter h l
 
--- none that passed was a reset
-unfoldable pub NoReset : List LineSegment → List Presented → Type 0
-NoReset h [] = Unit {0}
-NoReset h (o ∷ l) = NoReset h l × (judgedOver (historyAfter h l) o ≡ Pass → rst (o .segment .flags) ≡ 1 → ⊥)
+-- none that passed was a reset in stage 1, which frees
+unfoldable pub NoneFreed : List LineSegment → List Presented → Type 0
+NoneFreed h [] = Unit {0}
+NoneFreed h (o ∷ l) =
+    NoneFreed h l × (judgedOver (historyAfter h l) o ≡ Pass → stageOf (historyAfter h l) ≡ 1 → rst (o .segment .flags) ≡ 1 → ⊥)
 
 -- the history of an opening SYN alone
 abbrev pub openingHistory : Segment → List LineSegment
 openingHistory g = placed [] opener g ∷ []
 
--- a connection and a history agree: on the six numbers, FIN bits and stage, and on the answer to o; and a passed reset frees
+-- a connection and a history agree: on the six numbers, FIN bits and stage, and on the answer to o; and a reset that passes in stage 1 frees
 pub record Agree (c : Connection) (h : List LineSegment) (o : Presented) : Type 0 where
   pub holds : Holds c h
   pub answer : answerTo c o ≡ judgedOver h o
-  pub freed : answerTo c o ≡ Pass → rst (o .segment .flags) ≡ 1 → leftBy c o ≡ free
+  pub freed : answerTo c o ≡ Pass → stageOf h ≡ 1 → rst (o .segment .flags) ≡ 1 → leftBy c o ≡ free
 
--- from an opening SYN g on, after every list of presentable segments of which no reset passed, and at every next one
+-- from an opening SYN g on, after every list of presentable segments of which none freed it, and at every next one
 abbrev pub Demand2OfConnection : Type 0
 Demand2OfConnection =
     (side : ℕ) (g : Segment) (now : ℕ) → Placeable g → g .flags ≡ SYN →
-    (l : List Presented) → AllPresentable l → NoReset (openingHistory g) l →
+    (l : List Presented) → AllPresentable l → NoneFreed (openingHistory g) l →
     (o : Presented) → Presentable o →
     Agree (connectionAfter (opened side g now) l) (historyAfter (openingHistory g) l) o
 
@@ -88,6 +89,6 @@ Demand2OfConnection =
 abbrev pub Uniqueness : Type 0
 Uniqueness =
     (side : ℕ) (g : Segment) (now : ℕ) → Placeable g → g .flags ≡ SYN →
-    (l : List Presented) → AllPresentable l → NoReset (openingHistory g) l → 2 ≤ stageOf (historyAfter (openingHistory g) l) →
+    (l : List Presented) → AllPresentable l → NoneFreed (openingHistory g) l → 2 ≤ stageOf (historyAfter (openingHistory g) l) →
     (o : Presented) → Presentable o →
     ByAllPlaces (historyAfter (openingHistory g) l) (o .sender) (o .segment) (verdictNumber (answerTo (connectionAfter (opened side g now) l) o))

@@ -7,7 +7,7 @@ use Prim.Native.Nat.{ℕ, _+_, _^_, _<_, _≤_, max}
 use mathlib.Core.Path.{_≡_}
 use mathlib.Core.Bool.{Bool, _&&_, _||_, not}
 use mathlib.Core.List.{List, [], _∷_}
-use Rattle.choice.specs.Choice.{if_then_else_, _=ᵇ_, _≠ᵇ_}
+use Rattle.choice.specs.Choice.{if_then_else_, _≤ᵇ_, _=ᵇ_, _≠ᵇ_}
 use Rattle.serial.specs.Ring.{nearest}
 use Rattle.serial.specs.Serial.{seqAt}
 use Rattle.segment.specs.Flags.{syn, isReset, ack, SYN, SYN+ACK, ACK+RST}
@@ -61,17 +61,17 @@ numbersOf i (g ∷ h) = record {
   win = max (numbersOf i h .win) (windowBy i g);
 }
 
--- FIN bits and stage, by the rules under "Stages"
+-- FIN bits and stage, by the rules under "Stages"; a reset stays in the history for the stage alone (document 02, item 6)
 
 unfoldable pub finsOf : List LineSegment → ℕ
 finsOf [] = 0
 finsOf (g ∷ h) = if isReset (g .flags) then finsOf h else finsAfter (finsOf h) (g .from) (g .flags)
 
--- 0 before the opening and once a reset has passed
+-- 0 before the opening and once freed: a passed reset gives stage 6 from stage 2 on, and frees in stage 1
 unfoldable pub stageOf : List LineSegment → ℕ
 stageOf [] = 0
 stageOf (g ∷ h) =
-    if isReset (g .flags) then 0
+    if isReset (g .flags) then (if 2 ≤ᵇ stageOf h then 6 else 0)
     else if stageOf h =ᵇ 0 then 1
     else if stageOf h ≠ᵇ 1 then stageAfter (stageOf h) (finsOf (g ∷ h)) (g .from) (g .flags)
     else if g .from =ᵇ opener then 1
