@@ -7,7 +7,7 @@ use native.Mathlib.Omega.{arith}
 use lib.Dec.{eqb}
 use borrow.Author.Tests.{eq-eqb, ne-eqb, eqb-true, eqb-false, leb-true}
 use Rattle.choice.specs.Choice.{if_then_else_, _≤ᵇ_, _=ᵇ_, _≠ᵇ_}
-use Rattle.choice.proofs.Choice.{if-true, if-false, if-either, if-=, if-=-not, if-≠, if-≠-not, if-≤}
+use Rattle.choice.proofs.Choice.{if-true, if-false, if-either, if-=, if-=-not, if-≠, if-≠-not, if-≤, if-≤-not}
 use Rattle.choice.proofs.Tests.{false-true, &&-true}
 use Rattle.serial.specs.Ring.{wrap}
 use Rattle.serial.proofs.Ring.{wrap-plus}
@@ -216,7 +216,7 @@ module _ (c : Connection) (h : List LineSegment) (holds : Holds c h) (p : LineSe
           answerer = ends .1;
         }
 
--- A reset from stage 2 on
+-- A reset
 
 module _ (h : List LineSegment) (p : LineSegment) (is-reset : rst (p .flags) ≡ 1) where
   -- it counts for nothing
@@ -228,6 +228,11 @@ module _ (h : List LineSegment) (p : LineSegment) (is-reset : rst (p .flags) ≡
       let edge : max (numbersOf i h .edge) (edgeBy i p) ≡ numbersOf i h .edge = ap (max (numbersOf i h .edge)) (if-= _ _ is-reset) ∙ omega arith in
       let win : max (numbersOf i h .win) (windowBy i p) ≡ numbersOf i h .win = ap (max (numbersOf i h .win)) (if-false _ _ _ none) ∙ omega arith in
       λ k. record { end = end k; edge = edge k; win = win k }
+
+  -- in stage 1 it frees
+  pub reset-freed : stageOf h ≡ 1 → stageOf (p ∷ h) ≡ 0
+  unfolding stageOf
+  reset-freed first = let below : stageOf h < 2 = omega arith in if-= _ _ is-reset ∙ if-≤-not _ _ below
 
   module _ (open-h : Answered h) where
     pub reset-stage : stageOf (p ∷ h) ≡ 6
@@ -253,7 +258,7 @@ module _ (h : List LineSegment) (p : LineSegment) (is-reset : rst (p .flags) ≡
       ends = rw (reset-numbers 0, reset-numbers 1) (holds .ends);
     }
 
--- what a passed reset leaves then
+-- what it leaves from stage 2 on
 pub passed-reset : (c : Connection) (i : ℕ) (g : Segment) (now : ℕ) → rst (g .flags) ≡ 1 → (c .stage ≡ 1 → ⊥) → passed c i g now ≡ reset c now
 unfolding passed
 passed-reset c i g now is-reset later = if-= _ _ is-reset ∙ if-≠ _ _ later

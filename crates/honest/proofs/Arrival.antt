@@ -5,13 +5,14 @@ use mathlib.Core.Bool.{Bool, true, false}
 use mathlib.Core.List.{List, _∷_}
 use native.Mathlib.Omega.{arith}
 use lib.Dec.{eqb}
-use borrow.Author.Tests.{eqb-true, eqb-false}
-use Rattle.choice.proofs.Choice.{if-either, if-=-not}
-use Rattle.segment.specs.Flags.{rst, ack}
+use borrow.Author.Tests.{eqb-true, eqb-false, not-false}
+use Rattle.choice.specs.Choice.{_≠ᵇ_}
+use Rattle.choice.proofs.Choice.{if-either, if-cases}
+use Rattle.segment.specs.Flags.{rst, isReset, ack}
 use Rattle.segment.specs.declared.Segment.{Segment}
 use Rattle.connection.specs.Ranges.{ackRange}
 use Rattle.connection.specs.Stages.{lifeOf, finsAfter}
-use Rattle.connection.specs.Decision.{verdictOn, passed, opened, carried, repeated, answered, free}
+use Rattle.connection.specs.Decision.{verdictOn, passed, opened, carried, repeated, answered, reset}
 use Rattle.connection.specs.declared.Connection.{Connection}
 use Rattle.connection.specs.declared.Verdict.the-variants.{Pass}
 use Rattle.connection.proofs.Stages.{1≤lifeOf, stageAfter≥2, stageAfter≤5}
@@ -21,10 +22,11 @@ use Rattle.history.proofs.Step.{Near, start-near, ack-near, ackRange-small}
 use Rattle.history.proofs.Verdict.{Unanswered, Answered, spans, judged-answered, judged-unanswered}
 use Rattle.history.proofs.Pass.{carried-holds, carried-answered, repeated-holds, repeated-unanswered, answered-holds, answered-answered, answerer-begins}
 use Rattle.honest.specs.Rules.{Event, Pair}
+use Rattle.honest.proofs.Lists.{NoReset}
 use Rattle.honest.proofs.Sends.{SentWith, NoneLater, First, Fact, Protocol, rises-more}
 use Rattle.honest.proofs.Bounds as Bounds
 
--- What a pass that is no reset leaves of side and deadline
+-- What a pass that does not free leaves of side and deadline
 
 pub record Renewed (c : Connection) (now : ℕ) (c' : Connection) : Type 0 where
   pub side : c' .side ≡ c .side
@@ -37,14 +39,24 @@ pub opened-renewed :
 unfolding opened
 opened-renewed side g now = (refl, 1≤lifeOf 1 (omega arith) (omega arith))
 
-pub passed-renewed : (c : Connection) (i : ℕ) (g : Segment) (now : ℕ) → (rst (g .flags) ≡ 1 → ⊥) → Renewed c now (passed c i g now)
+pub reset-renewed : (c : Connection) (now : ℕ) → Renewed c now (reset c now)
+unfolding reset
+reset-renewed c now = record { side = refl; deadline = refl; life = 1≤lifeOf 6 (omega arith) (omega arith) }
+
+pub passed-renewed :
+    (c : Connection) (i : ℕ) (g : Segment) (now : ℕ) → (c .stage ≡ 1 → rst (g .flags) ≡ 1 → ⊥) →
+    Renewed c now (passed c i g now)
 unfolding passed carried repeated answered
-passed-renewed c i g now no-reset =
+passed-renewed c i g now kept =
     let fins = finsAfter (c .fins) i (g .flags) in
     let known = stageAfter≥2 (c .stage) fins i (g .flags) in
-    rw (if-=-not {a = rst (g .flags)} {b = 1} free _ no-reset)
-    (if-either (Renewed c now) _ _ _
-    record { side = refl; deadline = refl; life = 1≤lifeOf _ (omega (arith, known)) (stageAfter≤5 (c .stage) fins i (g .flags)) }
+    let most = stageAfter≤5 (c .stage) fins i (g .flags) in
+    if-cases (Renewed c now) (isReset (g .flags)) _ _
+    (λ is-reset. if-cases (Renewed c now) (c .stage ≠ᵇ 1) _ _
+    (λ _. reset-renewed c now)
+    (λ first. absurd (kept (eqb-true _ _ (not-false _ first)) (eqb-true _ _ is-reset))))
+    (λ _. if-either (Renewed c now) _ _ _
+    record { side = refl; deadline = refl; life = 1≤lifeOf _ (omega (arith, known)) (omega (arith, most)) }
     (if-either (Renewed c now) _ _ _
     record { side = refl; deadline = refl; life = 1≤lifeOf 1 (omega arith) (omega arith) }
     record { side = refl; deadline = refl; life = 1≤lifeOf 2 (omega arith) (omega arith) }))
@@ -57,9 +69,10 @@ pub data Heard (P : Pair) (h : List LineSegment) : Type 0 where
 
 module _
     {Call : Type 0} (P : Pair) (h : List LineSegment) (Arrived : ℕ → LineSegment → Type 0) (L : List (Event Call))
-    (inv : Protocol P h Arrived L) (c : Connection) (holds : Holds c h) (k : ℕ) (p : LineSegment) (s : ℕ) (sent : SentWith k p s L) where
+    (inv : Protocol P h Arrived L) (c : Connection) (holds : Holds c h) (k : ℕ) (p : LineSegment) (s : ℕ) (sent : SentWith k p s L)
+    (no-reset : NoReset p) where
   fact : Fact P h p s L
-  fact = inv .facts k p s sent
+  fact = inv .facts k p s sent no-reset
 
   pub record Passing : Type 0 where
     pub verdict : verdictOn c (p .from) (onWire p) ≡ Pass
@@ -72,18 +85,18 @@ module _
     other-known = omega (arith, fact .end-known)
 
     pass : judge h p ≡ Pass
-    pass = Bounds.judged-pass P h Arrived L inv k p s sent in-order a begun
+    pass = Bounds.judged-pass P h Arrived L inv k p s sent no-reset in-order a begun
 
     near : Near (numbersOf (p .from) h .end) (p .start)
     near =
         start-near (numbersOf (p .from) h) (numbersOf (1 - p .from) h) (p .start) (p .length)
         (spans h a (p .from) (fact .end-known)) (spans h a (1 - p .from) other-known)
-        (Bounds.bound-II P h Arrived L inv k p s sent in-order a begun) (Bounds.bound-I P h Arrived L inv k p s sent in-order a begun)
+        (Bounds.bound-II P h Arrived L inv k p s sent no-reset in-order a begun) (Bounds.bound-I P h Arrived L inv k p s sent no-reset in-order a begun)
 
     near-ack : ack (p .flags) ≡ 1 → Near (numbersOf (1 - p .from) h .end) (p .acked)
     near-ack acks =
         ack-near ackRange ackRange-small (numbersOf (1 - p .from) h) (p .acked)
-        (Bounds.bound-III P h Arrived L inv k p s sent in-order a begun acks) (Bounds.bound-IV P h Arrived L inv k p s sent in-order a begun acks)
+        (Bounds.bound-III P h Arrived L inv k p s sent no-reset in-order a begun acks) (Bounds.bound-IV P h Arrived L inv k p s sent no-reset in-order a begun acks)
 
     later-passing : Passing
     later-passing = record {
@@ -96,10 +109,10 @@ module _
   -- in stage 1
   module _ (u : Unanswered h) (begun : P .start 0 + 1 ≤ numbersOf 0 h .end) where
     first-pass : judge h p ≡ Pass
-    first-pass = Bounds.judged-first P h Arrived L inv u begun k p s sent
+    first-pass = Bounds.judged-first P h Arrived L inv u begun k p s sent no-reset
 
     x : First P p s
-    x = Bounds.sent-first P h Arrived L inv u begun k p s sent
+    x = Bounds.sent-first P h Arrived L inv u begun k p s sent no-reset
 
     opener-end : numbersOf 0 h .end ≡ P .start 0 + 1
     opener-end = Bounds.opener-end P h Arrived L inv u begun

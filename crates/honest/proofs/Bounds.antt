@@ -17,24 +17,24 @@ use Rattle.history.specs.History.{LineSegment, numbersOf, stageOf, judge, sameS
 use Rattle.history.proofs.Step.{Spans}
 use Rattle.history.proofs.Verdict.{Unanswered, Answered, spans}
 use Rattle.honest.specs.Rules.{Event, Pair, highest, ackOf, endOf, hasAnswer}
-use Rattle.honest.proofs.Lists.{In, highest-lub, endBy-mine, numbers-up, end-lub}
+use Rattle.honest.proofs.Lists.{In, NoReset, highest-lub, endBy-mine, numbers-up, end-lub}
 use Rattle.honest.proofs.Sends.{SentWith, NoneLater, ackFrom, Later, First, Fact, Protocol, FirstFacts, first-facts, answered-in, passed-sent}
 
 module _
     {Call : Type 0} (P : Pair) (h : List LineSegment) (Arrived : ℕ → LineSegment → Type 0) (L : List (Event Call))
     (inv : Protocol P h Arrived L) where
-  module _ (k : ℕ) (p : LineSegment) (s : ℕ) (sent : SentWith k p s L) (in-order : NoneLater Arrived (p .from) k) where
+  module _ (k : ℕ) (p : LineSegment) (s : ℕ) (sent : SentWith k p s L) (no-reset : NoReset p) (in-order : NoneLater Arrived (p .from) k) where
     fact : Fact P h p s L
-    fact = inv .facts k p s sent
+    fact = inv .facts k p s sent no-reset
 
     -- The order of arrivals enters here alone: what has passed of the same end was sent no later
     pub admitted :
-        (g : LineSegment) → In g h → g .from ≡ p .from →
+        (g : LineSegment) → In g h → NoReset g → g .from ≡ p .from →
         (r : ℕ) × Fact P h g r L × (r ≤ p .start) × (ack (g .flags) ≡ 1 → ack (p .flags) ≡ 1 → g .acked ≤ p .acked)
-    admitted g there same =
-        let a = passed-sent P h Arrived L inv g there in
-        let o = inv .order (a .0) g (a .1) k p s (a .3) sent same (in-order (a .0) g (a .2) same) in
-        (a .1, inv .facts (a .0) g (a .1) (a .3), omega (arith, o .0, fact .snapshot-low), o .1)
+    admitted g there none same =
+        let a = passed-sent P h Arrived L inv g there none in
+        let o = inv .order (a .0) g (a .1) k p s (a .3) sent none no-reset same (in-order (a .0) g (a .2) same (omega (arith, none))) in
+        (a .1, inv .facts (a .0) g (a .1) (a .3) none, omega (arith, o .0, fact .snapshot-low), o .1)
 
     module _ (both-heard : Answered h) (begun : (i : ℕ) → i < 2 → P .start i + 1 ≤ numbersOf i h .end) where
       i : ℕ
@@ -56,8 +56,8 @@ module _
       bound-I = omega (arith, fact .below-edge, begun-mine, F .ordered)
 
       pub bound-II : numbersOf (p .from) h .end ≤ p .start + numbersOf (1 - p .from) h .win
-      bound-II = end-lub (p .from) _ h (λ g there mine.
-          let a = admitted g there mine in
+      bound-II = end-lub (p .from) _ h (λ g there mine none.
+          let a = admitted g there none mine in
           let window : numbersOf (1 - g .from) h .win ≡ numbersOf (1 - p .from) h .win = ap (λ (j : ℕ). numbersOf (1 - j) h .win) mine in
           omega (arith, a .1 .in-window, a .2))
 
@@ -66,28 +66,29 @@ module _
 
       -- where each acknowledgement of this end that has passed is further by an allowance at most, so is the highest
       acks-near :
-          (allowance : ℕ) → ((g : LineSegment) → In g h → g .from ≡ p .from → ack (g .flags) ≡ 1 → g .acked ≤ p .acked + allowance) →
+          (allowance : ℕ) →
+          ((g : LineSegment) → In g h → NoReset g → g .from ≡ p .from → ack (g .flags) ≡ 1 → g .acked ≤ p .acked + allowance) →
           highest (ackFrom (p .from)) h ≤ p .acked + allowance
       acks-near allowance each =
-          highest-lub (ackFrom (p .from)) _ h (λ g there. by g there (eqb (g .from) (p .from)) refl (eqb (ack (g .flags)) 1) refl)
+          highest-lub (ackFrom (p .from)) _ h (λ g there none. by g there none (eqb (g .from) (p .from)) refl (eqb (ack (g .flags)) 1) refl)
         where
           by :
-              (g : LineSegment) → In g h → (t : Bool) → eqb (g .from) (p .from) ≡ t → (u : Bool) → eqb (ack (g .flags)) 1 ≡ u →
+              (g : LineSegment) → In g h → NoReset g → (t : Bool) → eqb (g .from) (p .from) ≡ t → (u : Bool) → eqb (ack (g .flags)) 1 ≡ u →
               ackFrom (p .from) g ≤ p .acked + allowance
-          by g there true e true a =
+          by g there none true e true a =
               rw (if-true (g .from =ᵇ p .from) (ackOf g) 0 e, if-true (ack (g .flags) =ᵇ 1) (g .acked) 0 a)
-              (each g there (eqb-true _ _ e) (eqb-true _ _ a))
-          by g there true e false a = rw (if-true (g .from =ᵇ p .from) (ackOf g) 0 e, if-false (ack (g .flags) =ᵇ 1) (g .acked) 0 a) (omega arith)
-          by g there false e u a = rw (if-false (g .from =ᵇ p .from) (ackOf g) 0 e) (omega arith)
+              (each g there none (eqb-true _ _ e) (eqb-true _ _ a))
+          by g there none true e false a = rw (if-true (g .from =ᵇ p .from) (ackOf g) 0 e, if-false (ack (g .flags) =ᵇ 1) (g .acked) 0 a) (omega arith)
+          by g there none false e u a = rw (if-false (g .from =ᵇ p .from) (ackOf g) 0 e) (omega arith)
 
       -- IV, for any largest window of this end, range and allowance
       ack-in-range :
           (largest range allowance : ℕ) → largest + allowance ≤ range → numbersOf (p .from) h .win ≤ largest →
           highest (ackFrom (p .from)) h ≤ p .acked + allowance → ack (p .flags) ≡ 1 →
           numbersOf (1 - p .from) h .end ≤ p .acked + range
-      ack-in-range largest range allowance wide most near acks = end-lub (1 - p .from) _ h (λ g there other.
-          let a = passed-sent P h Arrived L inv g there in
-          let f = inv .facts (a .0) g (a .1) (a .3) in
+      ack-in-range largest range allowance wide most near acks = end-lub (1 - p .from) _ h (λ g there other none.
+          let a = passed-sent P h Arrived L inv g there none in
+          let f = inv .facts (a .0) g (a .1) (a .3) none in
           let back : 1 - g .from ≡ p .from = omega (arith, fact .end-known) in
           let window : numbersOf (1 - g .from) h .win ≡ numbersOf (p .from) h .win = ap (λ (j : ℕ). numbersOf j h .win) back in
           let heard : highest (ackFrom (1 - g .from)) h ≡ highest (ackFrom (p .from)) h = ap (λ (j : ℕ). highest (ackFrom j) h) back in
@@ -98,7 +99,7 @@ module _
       pub bound-IV : ack (p .flags) ≡ 1 → numbersOf (1 - p .from) h .end ≤ p .acked + ackRange
       bound-IV acks =
           ack-in-range widest ackRange 0 (omega arith) (F .win-most)
-          (acks-near 0 (λ g there same acks'. omega (arith, admitted g there same .3 acks' acks))) acks
+          (acks-near 0 (λ g there none same acks'. omega (arith, admitted g there none same .3 acks' acks))) acks
 
       pub judged-pass : judge h p ≡ Pass
       unfolding judge
@@ -125,19 +126,19 @@ module _
     opener-unanswered e =
         let r = answered-in 0 L (omega arith) e in
         let there = inv .received 0 (r .0) (r .1) in
-        let a = passed-sent P h Arrived L inv (r .0) (there .0) in
-        let f = inv .facts (a .0) (r .0) (a .1) (a .3) in
+        let a = passed-sent P h Arrived L inv (r .0) (there .0) (r .2) in
+        let f = inv .facts (a .0) (r .0) (a .1) (a .3) (r .2) in
         let answerer : r .0 .from ≡ 1 = omega (arith, f .end-known, there .1) in
         let seen = rw (endBy-mine 1 (r .0) (f .no-reset) answerer) at (numbers-up 1 (r .0) h (there .0) .0) in
         let none = ap (λ (x : Numbers). x .end) (quiet .unheard) in
-        let flags = r .3 refl in
+        let flags = r .4 refl in
         omega (arith, seen, none, f .formed .syn-alone (rw flags))
 
     -- a passed segment of the opener is its SYN
-    opener-first : (g : LineSegment) → In g h → g .from ≡ 0 → (s : ℕ) × First P g s × Formed g
-    opener-first g there opener =
-        let a = passed-sent P h Arrived L inv g there in
-        let f = inv .facts (a .0) g (a .1) (a .3) in (
+    opener-first : (g : LineSegment) → In g h → NoReset g → g .from ≡ 0 → (s : ℕ) × First P g s × Formed g
+    opener-first g there none opener =
+        let a = passed-sent P h Arrived L inv g there none in
+        let f = inv .facts (a .0) g (a .1) (a .3) none in (
           a .1,
           ⊎-elim (λ (x : First P g (a .1)). x)
               (λ (y : Later g (a .1) L). absurd (opener-unanswered (subst (λ (j : ℕ). hasAnswer j L ≡ true) opener (y .answered-now)))) (f .kind),
@@ -148,39 +149,39 @@ module _
     answerer-unanswered e =
         let r = answered-in 1 L (omega arith) e in
         let there = inv .received 1 (r .0) (r .1) in
-        let a = passed-sent P h Arrived L inv (r .0) (there .0) in
-        let f = inv .facts (a .0) (r .0) (a .1) (a .3) in
+        let a = passed-sent P h Arrived L inv (r .0) (there .0) (r .2) in
+        let f = inv .facts (a .0) (r .0) (a .1) (a .3) (r .2) in
         let opener : r .0 .from ≡ 0 = omega (arith, f .end-known, there .1) in
-        let o = opener-first (r .0) (there .0) opener in
-        omega (arith, first-facts P (r .0) (o .2) (o .1 .rule) .opener opener, r .2)
+        let o = opener-first (r .0) (there .0) (r .2) opener in
+        omega (arith, first-facts P (r .0) (o .2) (o .1 .rule) .opener opener, r .3)
 
     unanswered-both : (i : ℕ) → i < 2 → hasAnswer i L ≡ true → ⊥
     unanswered-both zero known = opener-unanswered
     unanswered-both (suc zero) known = answerer-unanswered
     unanswered-both (suc (suc i)) known = absurd (omega arith)
 
-    pub sent-first : (k : ℕ) (p : LineSegment) (s : ℕ) → SentWith k p s L → First P p s
-    sent-first k p s sent =
-        let f = inv .facts k p s sent in
+    pub sent-first : (k : ℕ) (p : LineSegment) (s : ℕ) → SentWith k p s L → NoReset p → First P p s
+    sent-first k p s sent none =
+        let f = inv .facts k p s sent none in
         ⊎-elim (λ (x : First P p s). x) (λ (y : Later p s L). absurd (unanswered-both (p .from) (f .end-known) (y .answered-now))) (f .kind)
 
     pub opener-end : numbersOf 0 h .end ≡ P .start 0 + 1
     opener-end =
-        let most : numbersOf 0 h .end ≤ P .start 0 + 1 = end-lub 0 _ h (λ g there opener.
-        let o = opener-first g there opener in
+        let most : numbersOf 0 h .end ≤ P .start 0 + 1 = end-lub 0 _ h (λ g there opener none.
+        let o = opener-first g there none opener in
         let begins : P .start (g .from) ≡ P .start 0 = ap (P .start) opener in
         omega (arith, first-facts P g (o .2) (o .1 .rule) .end)) in
         omega arith
 
-    pub judged-first : (k : ℕ) (p : LineSegment) (s : ℕ) → SentWith k p s L → judge h p ≡ Pass
+    pub judged-first : (k : ℕ) (p : LineSegment) (s : ℕ) → SentWith k p s L → NoReset p → judge h p ≡ Pass
     unfolding judge judgeUnanswered sameSynOnLine replyOnLine
-    judged-first k p s sent = if-= _ _ (quiet .stage) ∙ by-end (eqb (p .from) 0) refl
+    judged-first k p s sent none = if-= _ _ (quiet .stage) ∙ by-end (eqb (p .from) 0) refl
       where
         f : Fact P h p s L
-        f = inv .facts k p s sent
+        f = inv .facts k p s sent none
 
         x : First P p s
-        x = sent-first k p s sent
+        x = sent-first k p s sent none
 
         ff : FirstFacts P p
         ff = first-facts P p (f .formed) (x .rule)

@@ -6,13 +6,13 @@ use mathlib.Core.Bool.{Bool, true, false, _&&_, _||_, not}
 use mathlib.Core.List.{List, [], _∷_}
 use native.Mathlib.Omega.{arith}
 use lib.ListN.{length}
-use borrow.Author.Tests.{not-true, ltb-true, leb-true, eq-eqb, eqb-true, lt-ltb}
+use borrow.Author.Tests.{not-true, ltb-true, leb-true, eq-eqb, eqb-true}
 use Rattle.choice.specs.Choice.{_<ᵇ_, _≤ᵇ_, _=ᵇ_}
 use Rattle.choice.proofs.Tests.{&&-true, ||-true, false-true}
 use Rattle.address.specs.Flows.{sameFlow}
 use Rattle.address.specs.declared.Flow.{Flow}
 use Rattle.address.proofs.Flows.{same-true}
-use Rattle.segment.specs.Flags.{syn, rst, ack, SYN, SYN+ACK}
+use Rattle.segment.specs.Flags.{syn, rst, isReset, ack, SYN, SYN+ACK}
 use Rattle.segment.specs.declared.Segment.{Segment}
 use Rattle.connection.specs.Ends.{otherEnd}
 use Rattle.connection.specs.Ranges.{widest}
@@ -22,8 +22,8 @@ use Rattle.rows.specs.declared.Found.{Found}
 use Rattle.rows.specs.declared.Found.the-variants.{At, Nothing}
 use Rattle.history.specs.History.{LineSegment, onWire, Formed}
 use Rattle.honest.specs.Machine.{asks, Machine}
-use Rattle.honest.specs.Rules.{Label, opening, arrival, other, IsArrivalOf, Event, send, call, delivery, Pair, sideOf, keyOf, sentBy, Sent, Arrived, receivedBy, highest, some, ackOf, edgeOf, endOf, hasAnswer, OpenersSyn, AnswerersSynAck, LaterSegment, Allowed, openers-syn, answerers-syn-ack, later}
-use Rattle.honest.specs.Honest.{told, passes, Live, said, WasPassed, bringing, Arrives, InOrder, Opening, Arrival, FairCall, Fair, Legal}
+use Rattle.honest.specs.Rules.{Label, opening, arrival, other, IsArrivalOf, Event, send, call, delivery, Pair, sideOf, keyOf, sentBy, Sent, Arrived, receivedBy, highest, some, ackOf, edgeOf, endOf, hasAnswer, OpenersSyn, AnswerersSynAck, LaterSegment, AnyReset, Allowed, openers-syn, answerers-syn-ack, later, any-reset}
+use Rattle.honest.specs.Honest.{told, passes, passedOnOurs, Live, WasPassed, bringing, Arrives, InOrder, Opening, Arrival, FairCall, Fair, Legal}
 use Rattle.honest.specs.Instance.{ViewCall, viewMachine}
 use Rattle.honest.proofs.Sends.{NoneLater}
 
@@ -123,10 +123,11 @@ formed p =
 
 -- where neither this sending nor one before is past the k-th of end i
 pub one-more :
-    {A : ℕ → LineSegment → Type 0} (i k n : ℕ) (p : LineSegment) → (p .from ≡ i → n ≤ k) → NoneLater A i k →
+    {A : ℕ → LineSegment → Type 0} (i k n : ℕ) (p : LineSegment) → (p .from ≡ i → rst (p .flags) ≡ 0 → n ≤ k) → NoneLater A i k →
     NoneLater (λ j g. ((j ≡ n) × (g ≡ p)) ⊎ A j g) i k
-one-more i k n p this before j g (inl (same, is)) of-i = rw same (this (ap (λ (x : LineSegment). x .from) (sym is) ∙ of-i))
-one-more i k n p this before j g (inr was) of-i = before j g was of-i
+one-more i k n p this before j g (inl (same, is)) of-i none =
+    rw same (this (ap (λ (x : LineSegment). x .from) (sym is) ∙ of-i) (ap (λ (x : LineSegment). rst (x .flags)) (sym is) ∙ none))
+one-more i k n p this before j g (inr was) of-i none = before j g was of-i none
 
 module _ (t₀ : View connections) (P : Pair) where
   abbrev M : Machine
@@ -181,10 +182,13 @@ module _ (t₀ : View connections) (P : Pair) where
       (both (atMost (P .start (otherEnd (p .from)) + 1) (p .acked))
       (both (atMost (p .acked) (highest endOf (receivedBy (p .from) L))) (atMost (highest ackOf (sentBy (p .from) L)) (p .acked))))))
 
+  abbrev anyReset : (p : LineSegment) (L : Seen) → Test (AnyReset P p L)
+  anyReset p L = so (λ h. record { by-either = h .0; is-reset = h .1 }) (both (below (p .from) 2) (equal (rst (p .flags)) 1))
+
   abbrev allowed : (p : LineSegment) (L : Seen) → Test (Allowed P p L)
   allowed p L =
-      so (λ h. ⊎-elim (λ r. openers-syn r) (λ h. ⊎-elim (λ r. answerers-syn-ack r) (λ r. later r) h) h)
-      (either (openersSyn p L) (either (answerersSynAck p L) (laterSegment p L)))
+      so (λ h. ⊎-elim (λ r. openers-syn r) (λ h. ⊎-elim (λ r. answerers-syn-ack r) (λ h. ⊎-elim (λ r. later r) (λ r. any-reset r) h) h) h)
+      (either (openersSyn p L) (either (answerersSynAck p L) (either (laterSegment p L) (anyReset p L))))
 
   abbrev wasSent : (k : ℕ) (p : LineSegment) (L : Seen) → Test (Sent k p L)
   wasSent k p [] = no
@@ -229,34 +233,40 @@ module _ (t₀ : View connections) (P : Pair) where
   abbrev noneLater : (i k : ℕ) (L : Seen) → Test (NoneLater (λ j g. Arrived j g L) i k)
   noneLater i k [] = yes (λ j g never. absurd never)
   noneLater i k (send p ∷ L) = noneLater i k L
-  noneLater i k (call q (opening n p) ∷ L) = so (λ h. one-more i k n p (h .0) (h .1)) (both (ifEqual (p .from) i (atMost n k)) (noneLater i k L))
-  noneLater i k (call q (arrival n p) ∷ L) = so (λ h. one-more i k n p (h .0) (h .1)) (both (ifEqual (p .from) i (atMost n k)) (noneLater i k L))
+  noneLater i k (call q (opening n p) ∷ L) =
+      so (λ h. one-more i k n p (h .0) (h .1)) (both (ifEqual (p .from) i (ifEqual (rst (p .flags)) 0 (atMost n k))) (noneLater i k L))
+  noneLater i k (call q (arrival n p) ∷ L) =
+      so (λ h. one-more i k n p (h .0) (h .1)) (both (ifEqual (p .from) i (ifEqual (rst (p .flags)) 0 (atMost n k))) (noneLater i k L))
   noneLater i k (call q other ∷ L) = so (λ h j g was. ⊎-elim (λ never. absurd never) (h j g) was) (noneLater i k L)
   noneLater i k (delivery n p ∷ L) = noneLater i k L
 
   abbrev inOrder : (i k : ℕ) (L : Seen) → Test (InOrder M i k L)
-  inOrder i k L = so (λ h j g was mine. omega (arith, h j g was mine)) (noneLater i k L)
+  inOrder i k L = so (λ h j g was mine none. omega (arith, h j g was mine none)) (noneLater i k L)
 
   abbrev comes : (k : ℕ) (p : LineSegment) (q : ViewCall) (L : Seen) → Test (Arrival M t₀ P k p q L)
   comes k p q L =
-      so (λ h. record { after-opening = h .0; arrives = arrives k p q L (h .1 .0); in-order = h .1 .1 .0; live = h .1 .1 .1 })
-      (both (isTrue (told M t₀ L .openingSeen)) (both (brings k p q L) (both (inOrder (p .from) k L) (isLive q L))))
+      so (λ h. record {
+        after-opening = h .0;
+        arrives = arrives k p q L (h .1 .0);
+        in-order = h .1 .1 .0;
+        live = h .1 .1 .1 .0;
+        reset-passes = h .1 .1 .1 .1;
+      })
+      (both (isTrue (told M t₀ L .openingSeen))
+      (both (brings k p q L)
+      (both (ifEqual (rst (p .flags)) 0 (inOrder (p .from) k L))
+      (both (isLive q L) (ifEqual (rst (p .flags)) 1 (isTrue (passes M (told M t₀ L) q)))))))
 
-  -- refused, or passed elsewhere, or once the connection has expired, or before it was opened
-  abbrev elsewhere : (q : ViewCall) (L : Seen) → Test (FairCall M t₀ P other q L)
-  elsewhere q L =
-      so (λ h on-ours.
-      ⊎-elim (λ f. false-true (sym f ∙ on-ours .after-opening))
-      (⊎-elim (λ f. false-true (sym f ∙ lt-ltb (max (q .0 .clock) (told M t₀ L .passClock)) (told M t₀ L .until) (omega (arith, on-ours .live))))
-      (⊎-elim (λ f. false-true (sym f ∙ on-ours .answered-0)) (λ f. false-true (sym f ∙ eq-eqb _ _ (on-ours .place))))) h)
-      (either (isFalse (told M t₀ L .openingSeen))
-      (either (isFalse (isLive q L .holds))
-      (either (isFalse (passes M (told M t₀ L) q)) (isFalse (said M t₀ L q .place =ᵇ told M t₀ L .place)))))
+  -- not passed on the opening's entry, or a reset
+  abbrev noArrival : (q : ViewCall) (L : Seen) → Test (FairCall M t₀ P other q L)
+  noArrival q L =
+      so (λ h ours-is. ⊎-elim (λ not-ours. false-true (sym not-ours ∙ ours-is)) (λ reset. reset) h)
+      (either (isFalse (passedOnOurs M (told M t₀ L) q)) (isTrue (isReset (q .0 .segment .flags))))
 
   abbrev fairCall : (l : Label) (q : ViewCall) (L : Seen) → Test (FairCall M t₀ P l q L)
   fairCall (opening k p) q L = opens k p q L
   fairCall (arrival k p) q L = comes k p q L
-  fairCall other q L = elsewhere q L
+  fairCall other q L = noArrival q L
 
   abbrev isLabel : (l : Label) (k : ℕ) (p : LineSegment) → Test (IsArrivalOf l k p)
   isLabel (opening j g) k p = both (equal k j) (sameLine p g)

@@ -2,15 +2,15 @@
 use Prim.Native.Nat.{ℕ, _+_, _<_, _≤_}
 use mathlib.Core.Path.{_≡_, refl, sym, ap, subst, _∙_}
 use mathlib.Core.Logic.{_⊎_, inl, inr, ⊎-elim}
-use mathlib.Core.Bool.{true, false}
+use mathlib.Core.Bool.{Bool, true, false, _&&_}
 use mathlib.Core.List.{List, [], _∷_}
 use native.Mathlib.Omega.{arith}
-use borrow.Author.Tests.{eqb-true, eqb-false}
+use borrow.Author.Tests.{eq-eqb, eqb-true, eqb-false}
 use Rattle.choice.specs.Choice.{_=ᵇ_}
-use Rattle.choice.proofs.Choice.{if-true, if-both}
-use Rattle.choice.proofs.Tests.{&&-true, true-or-false}
+use Rattle.choice.proofs.Choice.{if-both}
+use Rattle.choice.proofs.Tests.{true-&&, &&-true, true-or-false, false-true}
 use Rattle.address.specs.declared.Flow.{Flow}
-use Rattle.segment.specs.Flags.{rst, SYN}
+use Rattle.segment.specs.Flags.{rst, isReset, SYN}
 use Rattle.segment.specs.declared.Segment.{Segment}
 use Rattle.connection.specs.Stages.{lifeOf}
 use Rattle.connection.specs.Decision.{verdictOn, verdictNumber, passed, opened}
@@ -24,13 +24,13 @@ use Rattle.rows.specs.declared.Found.the-variants.{At, Nothing}
 use Rattle.rows.proofs.Rows.{sender-known, onSegment-by-search, onEntry-by-verdict, unmatched-answer, answer-by-verdict, found-live}
 use Rattle.history.specs.Numbers.{onRing}
 use Rattle.history.specs.History.{LineSegment, numbersOf, finsOf, stageOf, placed, judge, Holds, Placeable}
-use Rattle.history.proofs.Demand2.{Reached, unanswered, answered, judged, pass-holds, holds-first, reached-first}
+use Rattle.history.proofs.Pass.{reset-freed}
+use Rattle.history.proofs.Demand2.{Reached, unanswered, answered, judged, pass-holds, reset-frees, holds-first, reached-first}
 use Rattle.history.proofs.Places.{from-stage-2, by-all-places}
 use Rattle.honest.specs.Histories.{History, grown, histories, recordsOf, connectionOf}
 use Rattle.honest.specs.Demand2.{fresh, viewAfter, AllPlaceable, FoundFromStage2, AnswersByAllPlaces, Demand2}
 use Rattle.honest.proofs.Arrival.{passed-renewed}
 use Rattle.honest.proofs.Simulation.{Agreeing, Related, Alike, answer-alike, place-alike, after-alike, filter-same}
-use Rattle.honest.proofs.SoundKept.{reset-frees}
 
 never : {A : Type 0} → Reached [] → A
 unfolding numbersOf
@@ -44,11 +44,6 @@ reached-holds h r = record { stage = refl; fins = refl; ends = go (h .segments) 
     go : (l : List LineSegment) → Reached l → recordsOf l ≡ onRing (numbersOf 0 l) ∷ onRing (numbersOf 1 l) ∷ []
     go [] none = never none
     go (p ∷ l) some = refl
-
--- a history with a reset on top has stage 0
-reset-stage : (h : List LineSegment) (i : ℕ) (g : Segment) → rst (g .flags) =ᵇ 1 ≡ true → stageOf (placed h i g ∷ h) ≡ 0
-unfolding stageOf
-reset-stage h i g reset = if-true _ _ _ reset
 
 abbrev entryOf : Entry histories → Entry connections
 entryOf f = record { key = f .key; connection = connectionOf (f .connection) }
@@ -112,12 +107,12 @@ module _
   verdict-same : verdictOn c i g ≡ judge h (placed h i g)
   verdict-same = judged c h holds reached (record { sender = i; segment = g; now = 0 }) record { sender-known = known; placeable = placeable }
 
-  passed-stands : (now : ℕ) → verdictOn c i g ≡ Pass → (rst (g .flags) ≡ 1 → ⊥) → Stands (after-c now) (after-h now)
-  passed-stands now passes no-reset =
+  passed-stands : (now : ℕ) → verdictOn c i g ≡ Pass → (c .stage ≡ 1 → rst (g .flags) ≡ 1 → ⊥) → Stands (after-c now) (after-h now)
+  passed-stands now passes kept =
       let after =
       pass-holds c h holds reached (record { sender = i; segment = g; now = now }) record { sender-known = known; placeable = placeable }
-      no-reset (sym verdict-same ∙ passes) in
-      let renewed = passed-renewed c i g now no-reset in
+      (λ first. kept (holds .stage ∙ first)) (sym verdict-same ∙ passes) in
+      let renewed = passed-renewed c i g now kept in
       let side = renewed .side ∙ ap (λ (x : Entry connections). x .connection .side) (r .is) in
       let deadline = renewed .deadline ∙ ap (λ (s : ℕ). now + lifeOf s) (after .0 .stage) in
       subst (λ (k : Flow). Stands (record { key = k; connection = passed c i g now }) (after-h now))
@@ -126,18 +121,28 @@ module _
 
   -- a pass frees both or neither
   stage-same : (now : ℕ) → verdictOn c i g ≡ Pass → passed c i g now .stage ≡ stageOf (placed h i g ∷ h)
-  stage-same now passes = go (true-or-false (rst (g .flags) =ᵇ 1))
+  stage-same now passes = go (true-or-false frees)
     where
-      go : (rst (g .flags) =ᵇ 1 ≡ true) ⊎ (rst (g .flags) =ᵇ 1 ≡ false) → passed c i g now .stage ≡ stageOf (placed h i g ∷ h)
-      go (inl reset) = ap (λ (x : Connection). x .stage) (reset-frees c i g now (eqb-true _ _ reset)) ∙ sym (reset-stage h i g reset)
-      go (inr none) = ap (λ (x : Entry connections). x .connection .stage) (passed-stands now passes (eqb-false _ _ none) .is)
+      frees : Bool
+      frees = (c .stage =ᵇ 1) && isReset (g .flags)
+
+      go : (frees ≡ true) ⊎ (frees ≡ false) → passed c i g now .stage ≡ stageOf (placed h i g ∷ h)
+      go (inl is) =
+          let f = &&-true (c .stage =ᵇ 1) (isReset (g .flags)) is in
+          let first = eqb-true _ _ (f .0) in
+          let is-reset = eqb-true _ _ (f .1) in
+          ap (λ (x : Connection). x .stage) (reset-frees c i g now first is-reset) ∙ sym (reset-freed h (placed h i g) is-reset (sym (holds .stage) ∙ first))
+      go (inr not) =
+          let kept : c .stage ≡ 1 → rst (g .flags) ≡ 1 → ⊥ = λ (first : c .stage ≡ 1) (is-reset : rst (g .flags) ≡ 1).
+          false-true (sym not ∙ true-&& _ _ (eq-eqb _ _ first) (eq-eqb _ _ is-reset)) in
+          ap (λ (x : Entry connections). x .connection .stage) (passed-stands now passes kept .is)
 
   after-stands : (now : ℕ) → verdictOn c i g ≡ Pass → Stands (entryAfter connections e i g now) (entryAfter histories f i g now)
   unfolding entryWith
   after-stands now passes =
       if-both Stands _ _ _ _ _ _ (ap (λ (n : ℕ). n =ᵇ 0) (stage-same now passes)) (λ _. free-stands)
-      (λ in-use. passed-stands now passes (λ reset.
-      eqb-false _ _ in-use (ap (λ (x : Connection). x .stage) (reset-frees c i g now reset))))
+      (λ in-use. passed-stands now passes (λ first is-reset.
+      eqb-false _ _ in-use (ap (λ (x : Connection). x .stage) (reset-frees c i g now first is-reset))))
 
 entries-agree : Agreeing Stands Placeable
 entries-agree = record {

@@ -16,7 +16,10 @@ use Rattle.honest.proofs.SoundKept.{free-two-ended, filter-sound}
 use Rattle.honest.proofs.Demand2Machine.{demand2-of}
 use Rattle.honest.proofs.Demand3.{demand3}
 
-module _ (number : ℕ → ℕ) where
+pub fresh-sound : (n : ℕ) → SoundTwoEndedView (fresh connections n)
+fresh-sound n = ((λ p inside. inl refl), (λ p inside. free-two-ended))
+
+module _ (number : ℕ → ℕ) (differ : (p r : ℕ) → number p ≡ number r → p ≡ r) where
   pub viewMachine-keeps : KeepsTo (viewMachine number) SoundTwoEndedView
   viewMachine-keeps = record {
     refusal-answered = λ t q n place sound is. false-true cc;
@@ -28,6 +31,7 @@ module _ (number : ℕ → ℕ) where
     view-by-rows = λ t q a sound is. let same : q .0 ≡ a = cc in rw same;
     blocked-keeps = λ t q refused. refusal-keeps connections t (filter connections t (q .0)) refused;
     apart-keeps = λ t q sound is. false-true cc;
+    numbers-differ = differ;
     sound-view = λ t sound. sound .0;
     sound-kept = λ t q sound. filter-sound t (q .0) (sound .0) (sound .1) (q .1) (q .2);
   }
@@ -39,9 +43,6 @@ module _ (number : ℕ → ℕ) where
   -- and its answers, places and tables are the histories'
   pub demand2-view : Demand2Of (viewMachine number) SoundTwoEndedView
   demand2-view = demand2-of (viewMachine number) SoundTwoEndedView viewMachine-keeps
-
-  pub fresh-sound : (n : ℕ) → SoundTwoEndedView (fresh connections n)
-  fresh-sound n = ((λ p inside. inl refl), (λ p inside. free-two-ended))
 
   -- from the fresh table of any number of places
   pub demand3-fresh :

@@ -8,6 +8,7 @@ pub mod SoundKept
 pub mod Demand2Lists
 pub mod Demand2Machine
 pub mod Demand3
+pub mod AsWritten
 pub mod Instance
 pub mod Transfer
 pub mod Marked

@@ -1,16 +1,16 @@
--- Maxima over lists of segments: every member is at most the maximum, and the maximum is at most what every member is.
-use Prim.Native.Nat.{ℕ, _≤_}
+-- Maxima over lists of segments, resets left out: every member is at most the maximum, and the maximum is at most what every member is.
+use Prim.Native.Nat.{ℕ, _≤_, max}
 use mathlib.Core.Path.{_≡_, refl, sym, ap, _∙_}
 use mathlib.Core.Logic.{_⊎_, inl, inr, ⊎-elim}
-use mathlib.Core.Bool.{Bool, true, false, _&&_, or-true}
+use mathlib.Core.Bool.{Bool, true, false, _&&_, not, or-true}
 use mathlib.Core.List.{List, [], _∷_}
 use native.Mathlib.Omega.{arith}
 use lib.Dec.{eqb}
-use borrow.Author.Tests.{eq-eqb, ne-eqb, eqb-true, eqb-false}
+use borrow.Author.Tests.{eq-eqb, ne-eqb, eqb-true, eqb-false, not-true}
 use Rattle.choice.specs.Choice.{_=ᵇ_, _≠ᵇ_}
-use Rattle.choice.proofs.Choice.{if-true, if-false, if-either, if-=-not}
-use Rattle.choice.proofs.Tests.{||-true, false-true}
-use Rattle.segment.specs.Flags.{rst, ack}
+use Rattle.choice.proofs.Choice.{if-true, if-false, if-cases, if-=-not}
+use Rattle.choice.proofs.Tests.{&&-true, ||-true, false-true}
+use Rattle.segment.specs.Flags.{rst, isReset, ack}
 use Rattle.history.specs.History.{LineSegment, numbersOf, endBy, edgeBy, windowBy}
 use Rattle.honest.specs.Rules.{highest, some, edgeOf, endOf}
 
@@ -21,36 +21,58 @@ In p (g ∷ l) = (p ≡ g) ⊎ In p l
 
 -- The highest of a number
 
-pub highest-up : (f : LineSegment → ℕ) (p : LineSegment) (l : List LineSegment) → In p l → f p ≤ highest f l
-unfolding highest
-highest-up f p [] here = absurd here
-highest-up f p (g ∷ l) here =
-    ⊎-elim (λ (e : p ≡ g). rw e (omega arith)) (λ (i : In p l). omega (arith, highest-up f p l i)) here
+-- a segment without RST
+abbrev pub NoReset : LineSegment → Type 0
+NoReset p = rst (p .flags) ≡ 1 → ⊥
 
-pub highest-lub : (f : LineSegment → ℕ) (b : ℕ) (l : List LineSegment) → ((p : LineSegment) → In p l → f p ≤ b) → highest f l ≤ b
+pub highest-up : (f : LineSegment → ℕ) (p : LineSegment) (l : List LineSegment) → In p l → NoReset p → f p ≤ highest f l
+unfolding highest
+highest-up f p [] here none = absurd here
+highest-up f p (g ∷ l) here none =
+    if-cases (λ n. f p ≤ n) (isReset (g .flags)) (highest f l) (max (f g) (highest f l))
+    (λ reset.
+    ⊎-elim (λ (e : p ≡ g). absurd (none (ap (λ (x : LineSegment). rst (x .flags)) e ∙ eqb-true _ _ reset)))
+    (λ (i : In p l). highest-up f p l i none) here)
+    (λ _. ⊎-elim (λ (e : p ≡ g). rw e (omega arith)) (λ (i : In p l). omega (arith, highest-up f p l i none)) here)
+
+pub highest-lub :
+    (f : LineSegment → ℕ) (b : ℕ) (l : List LineSegment) → ((p : LineSegment) → In p l → NoReset p → f p ≤ b) →
+    highest f l ≤ b
 unfolding highest
 highest-lub f b [] all = omega arith
-highest-lub f b (g ∷ l) all = omega (arith, all g (inl refl), highest-lub f b l (λ p i. all p (inr i)))
+highest-lub f b (g ∷ l) all =
+    let rest : highest f l ≤ b = highest-lub f b l (λ p i. all p (inr i)) in
+    if-cases (λ n. n ≤ b) (isReset (g .flags)) (highest f l) (max (f g) (highest f l)) (λ _. rest)
+    (λ none. omega (arith, all g (inl refl) (eqb-false _ _ none)))
 
-pub some-in : (test : LineSegment → Bool) (l : List LineSegment) → some test l ≡ true → (p : LineSegment) × In p l × (test p ≡ true)
+pub some-in :
+    (test : LineSegment → Bool) (l : List LineSegment) → some test l ≡ true →
+    (p : LineSegment) × In p l × NoReset p × (test p ≡ true)
 unfolding some
 some-in test [] e = false-true e
 some-in test (g ∷ l) e =
-    ⊎-elim (λ (here : test g ≡ true). (g, inl refl, here))
-    (λ (there : some test l ≡ true). let r = some-in test l there in (r .0, inr (r .1), r .2))
-    (||-true (test g) (some test l) e)
+    ⊎-elim
+    (λ (here : not (isReset (g .flags)) && test g ≡ true).
+    let h = &&-true (not (isReset (g .flags))) (test g) here in (g, inl refl, eqb-false _ _ (not-true _ (h .0)), h .1))
+    (λ (there : some test l ≡ true). let r = some-in test l there in (r .0, inr (r .1), r .2, r .3))
+    (||-true (not (isReset (g .flags)) && test g) (some test l) e)
 
-pub in-some : (test : LineSegment → Bool) (l : List LineSegment) (p : LineSegment) → In p l → test p ≡ true → some test l ≡ true
+pub in-some :
+    (test : LineSegment → Bool) (l : List LineSegment) (p : LineSegment) → In p l → NoReset p → test p ≡ true →
+    some test l ≡ true
 unfolding some
-in-some test [] p here e = absurd here
-in-some test (g ∷ l) p here e =
-    ⊎-elim (λ (same : p ≡ g). rw (ap test (sym same) ∙ e))
-    (λ (there : In p l). rw (in-some test l p there e) (or-true (test g)))
+in-some test [] p here none e = absurd here
+in-some test (g ∷ l) p here none e =
+    ⊎-elim
+    (λ (same : p ≡ g).
+    let counts : not (isReset (g .flags)) ≡ true = ap (λ (x : LineSegment). not (isReset (x .flags))) (sym same) ∙ ap not (ne-eqb _ _ none) in
+    rw (counts, ap test (sym same) ∙ e))
+    (λ (there : In p l). rw (in-some test l p there none e) (or-true (not (isReset (g .flags)) && test g)))
     here
 
 -- The six numbers
 
-module _ (i : ℕ) (p : LineSegment) (no-reset : rst (p .flags) ≡ 1 → ⊥) where
+module _ (i : ℕ) (p : LineSegment) (no-reset : NoReset p) where
   pub endBy-mine : p .from ≡ i → endBy i p ≡ endOf p
   endBy-mine mine = if-true _ _ _ (rw (eq-eqb (p .from) i mine, ne-eqb (rst (p .flags)) 1 no-reset))
 
@@ -83,14 +105,17 @@ module _ (i : ℕ) (p : LineSegment) where
       (λ (there : In p h). let k = numbers-up h there in (omega (arith, k .0), omega (arith, k .1), omega (arith, k .2)))
       here
 
-endBy≤ : (i b : ℕ) (p : LineSegment) → (p .from ≡ i → endOf p ≤ b) → endBy i p ≤ b
-endBy≤ i b p bound = by (eqb (p .from) i) refl
-  where
-    by : (t : Bool) → eqb (p .from) i ≡ t → endBy i p ≤ b
-    by true e = if-either (λ n. n ≤ b) ((p .from =ᵇ i) && (rst (p .flags) ≠ᵇ 1)) (endOf p) 0 (bound (eqb-true (p .from) i e)) (omega arith)
-    by false e = rw (endBy-theirs i p (eqb-false (p .from) i e)) (omega arith)
+endBy≤ : (i b : ℕ) (p : LineSegment) → (p .from ≡ i → NoReset p → endOf p ≤ b) → endBy i p ≤ b
+endBy≤ i b p bound =
+    if-cases (λ n. n ≤ b) ((p .from =ᵇ i) && (rst (p .flags) ≠ᵇ 1)) (endOf p) 0
+    (λ counted.
+    let c = &&-true (p .from =ᵇ i) (rst (p .flags) ≠ᵇ 1) counted in
+    bound (eqb-true (p .from) i (c .0)) (eqb-false _ _ (not-true _ (c .1))))
+    (λ _. omega arith)
 
-pub end-lub : (i b : ℕ) (h : List LineSegment) → ((p : LineSegment) → In p h → p .from ≡ i → endOf p ≤ b) → numbersOf i h .end ≤ b
+pub end-lub :
+    (i b : ℕ) (h : List LineSegment) → ((p : LineSegment) → In p h → p .from ≡ i → NoReset p → endOf p ≤ b) →
+    numbersOf i h .end ≤ b
 unfolding numbersOf
 end-lub i b [] all = omega arith
 end-lub i b (g ∷ h) all =

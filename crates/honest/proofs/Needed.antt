@@ -11,12 +11,12 @@ use Rattle.address.specs.Flows.{sameFlow}
 use Rattle.connection.specs.Ends.{sent, granted, endsAfter}
 use Rattle.connection.specs.Ranges.{sequenceMet, ackMet}
 use Rattle.connection.specs.Stages.{lifeOf, withFin, finsAfter, openStage, stageAfter}
-use Rattle.connection.specs.Decision.{sameSyn, reply, verdictUnanswered, verdictByRanges, verdictOn, opened, repeated, answered, carried, passed}
+use Rattle.connection.specs.Decision.{sameSyn, reply, verdictUnanswered, verdictByRanges, verdictOn, opened, repeated, answered, carried, reset, passed}
 use Rattle.rows.specs.Places.{firstFrom}
 use Rattle.rows.specs.Rows.{fromOpener, fromAnswerer, liveMatch, vacant, senderOf, entryWith, onEntry, openingEntry, unmatched, onSegment}
 use Rattle.history.specs.History.{finsOf, stageOf}
 use Rattle.honest.specs.Rules.{opening, arrival, other, send, call, delivery, Pair, sentBy, receivedBy, highest, some, hasAnswer}
-use Rattle.honest.specs.Honest.{passes, afterCall, told, said, Fair, Legal, NeverBlocked}
+use Rattle.honest.specs.Honest.{passes, passedOnOurs, afterCall, told, said, Fair, Legal, NeverBlocked}
 use Rattle.honest.specs.Witness.{Seen}
 use Rattle.honest.specs.Needed.{Need, one, M, FairAfter, BlockedArrival, Shown, AllShown, ofSendings, ofCalls, EachNeeded}
 use Rattle.honest.proofs.Check.{Test, both, yes, no, so, equal, atMost, fair, checked}
@@ -79,7 +79,7 @@ shown n (known, (before, (instead, (later, here)))) = record {
   not-fair = λ is-fair.
       let L = reverse (n .later) ++ n .broken ∷ reverse (n .before) in
       let legal = legal-after (n .pair) (reverse (n .later)) (n .broken ∷ reverse (n .before)) later (is-fair, before) in
-      not-blocked L (n .answer) (demand3-view (λ p. p) one (fresh-sound (λ p. p) 1) (n .pair) known L legal) here;
+      not-blocked L (n .answer) (demand3-view (λ p. p) (λ p r e. e) one (fresh-sound 1) (n .pair) known L legal) here;
   fair-instead = instead;
   fair-later = later;
   blocked = here;
@@ -90,7 +90,7 @@ allShown [] = yes tt
 allShown (n ∷ l) = both (so (shown n) (computes n)) (allShown l)
 
 computed : (allShown ofSendings .holds ≡ true) × (allShown ofCalls .holds ≡ true)
-unfolding if_then_else_ wrap ringPlus ringMinus nearest further sent granted endsAfter sequenceMet ackMet lifeOf withFin finsAfter openStage stageAfter sameSyn reply verdictUnanswered verdictByRanges verdictOn opened repeated answered carried passed finsOf stageOf firstFrom fromOpener fromAnswerer liveMatch vacant senderOf entryWith onEntry openingEntry unmatched onSegment sameFlow sentBy receivedBy highest some hasAnswer passes afterCall told
+unfolding if_then_else_ wrap ringPlus ringMinus nearest further sent granted endsAfter sequenceMet ackMet lifeOf withFin finsAfter openStage stageAfter sameSyn reply verdictUnanswered verdictByRanges verdictOn opened repeated answered carried reset passed finsOf stageOf firstFrom fromOpener fromAnswerer liveMatch vacant senderOf entryWith onEntry openingEntry unmatched onSegment sameFlow sentBy receivedBy highest some hasAnswer passes passedOnOurs afterCall told
 computed = (refl, refl)
 
 pub each-needed : EachNeeded

@@ -13,8 +13,8 @@ use Rattle.choice.proofs.Choice.{if-true, if-false, if-either, if-=, if-=-not}
 use Rattle.choice.proofs.Tests.{false-true}
 use Rattle.segment.specs.Flags.{syn, rst, ack, SYN, SYN+ACK}
 use Rattle.history.specs.History.{LineSegment, numbersOf, Formed}
-use Rattle.honest.specs.Rules.{Label, Event, send, call, delivery, Pair, sentBy, Sent, receivedBy, highest, some, ackOf, edgeOf, endOf, hasAnswer, LaterSegment, Allowed, openers-syn, answerers-syn-ack, later}
-use Rattle.honest.proofs.Lists.{In, highest-up, highest-lub, some-in, in-some, endBy-mine, windowBy-mine, edgeOf≤edgeBy, numbers-up, win-some}
+use Rattle.honest.specs.Rules.{Label, Event, send, call, delivery, Pair, sentBy, Sent, receivedBy, highest, some, ackOf, edgeOf, endOf, hasAnswer, LaterSegment, Allowed, openers-syn, answerers-syn-ack, later, any-reset}
+use Rattle.honest.proofs.Lists.{In, NoReset, highest-up, highest-lub, some-in, in-some, endBy-mine, windowBy-mine, edgeOf≤edgeBy, numbers-up, win-some}
 
 -- Sendings with their snapshots
 
@@ -60,9 +60,9 @@ module _ {Call : Type 0} where
   sent-in k p s (call q l ∷ L) sent = sent-in k p s L sent
   sent-in k p s (delivery j g ∷ L) sent = sent-in k p s L sent
 
--- none after the k-th of end i has arrived
+-- none after the k-th of end i has arrived, resets left out
 abbrev pub NoneLater : (HasArrived : ℕ → LineSegment → Type 0) (i k : ℕ) → Type 0
-NoneLater HasArrived i k = (j : ℕ) (g : LineSegment) → HasArrived j g → g .from ≡ i → j ≤ k
+NoneLater HasArrived i k = (j : ℕ) (g : LineSegment) → HasArrived j g → g .from ≡ i → rst (g .flags) ≡ 0 → j ≤ k
 
 -- an end's first segment, the opener's SYN or the answerer's SYN+ACK
 pub record FirstSegment (P : Pair) (p : LineSegment) : Type 0 where
@@ -75,6 +75,7 @@ module _ {Call : Type 0} (P : Pair) (p : LineSegment) (L : List (Event Call)) wh
   pub data Sending : Type 0 where
     first : p .from < 2 → FirstSegment P p → hasAnswer (p .from) L ≡ false → Sending
     after : LaterSegment P p L → Sending
+    of-reset : p .from < 2 → rst (p .flags) ≡ 1 → Sending
 
   pub sending : Allowed P p L → Sending
   sending (openers-syn r) =
@@ -96,6 +97,12 @@ module _ {Call : Type 0} (P : Pair) (p : LineSegment) (L : List (Event Call)) wh
       }
       (subst (λ (i : ℕ). hasAnswer i L ≡ false) (sym end) (r .until-ack))
   sending (later r) = after r
+  sending (any-reset r) = of-reset (r .by-either) (r .is-reset)
+
+  sender-known : Sending → p .from < 2
+  sender-known (first known rule unanswered) = known
+  sender-known (after rule) = rule .by-either
+  sender-known (of-reset known is) = known
 
 -- the acknowledgement of a segment of end j
 abbrev pub ackFrom : ℕ → LineSegment → ℕ
@@ -129,7 +136,12 @@ rises-same h = record { end = λ i. omega arith; edge = λ i. omega arith; win =
 
 pub rises-more : (p : LineSegment) (h : List LineSegment) → Rises h (p ∷ h)
 unfolding numbersOf highest
-rises-more p h = record { end = λ i. omega arith; edge = λ i. omega arith; win = λ i. omega arith; acks = λ i. omega arith }
+rises-more p h = record {
+  end = λ i. omega arith;
+  edge = λ i. omega arith;
+  win = λ i. omega arith;
+  acks = λ i. if-either (λ n. highest (ackFrom i) h ≤ n) _ _ _ (omega arith) (omega arith);
+}
 
 module _ {Call : Type 0} where
   pub grows-send : (p : LineSegment) (L : List (Event Call)) → Grows L (send p ∷ L)
@@ -145,14 +157,14 @@ module _ {Call : Type 0} where
       some test (receivedBy i (delivery k p ∷ L)) ≡ true
   some-more test i k p L e =
       let r = some-in test (receivedBy i L) e in
-      in-some test (receivedBy i (delivery k p ∷ L)) (r .0) (received-more i k p (r .0) L (r .1)) (r .2)
+      in-some test (receivedBy i (delivery k p ∷ L)) (r .0) (received-more i k p (r .0) L (r .1)) (r .2) (r .3)
 
   pub grows-delivery : (k : ℕ) (p : LineSegment) (L : List (Event Call)) → Grows L (delivery k p ∷ L)
   unfolding hasAnswer
   grows-delivery k p L = record {
     answered-still = λ i e. by (eqb i 0) i e;
     heard-more = λ i.
-        highest-lub ackOf _ (receivedBy i L) (λ g there. highest-up ackOf g (receivedBy i (delivery k p ∷ L)) (received-more i k p g L there));
+        highest-lub ackOf _ (receivedBy i L) (λ g there none. highest-up ackOf g (receivedBy i (delivery k p ∷ L)) (received-more i k p g L there) none);
   }
     where
       by :
@@ -166,21 +178,21 @@ module _ {Call : Type 0} where
 -- an end that is answered has received a segment with ACK; the opener, a SYN+ACK
 pub answered-in :
     {Call : Type 0} (i : ℕ) (L : List (Event Call)) → i < 2 → hasAnswer i L ≡ true →
-    (g : LineSegment) × In g (receivedBy i L) × (ack (g .flags) ≡ 1) × (i ≡ 0 → g .flags ≡ SYN+ACK)
+    (g : LineSegment) × In g (receivedBy i L) × NoReset g × (ack (g .flags) ≡ 1) × (i ≡ 0 → g .flags ≡ SYN+ACK)
 unfolding hasAnswer if_then_else_
 answered-in zero L known e =
     let r = some-in (λ g. g .flags =ᵇ SYN+ACK) (receivedBy 0 L) e in
-    let flags = eqb-true (r .0 .flags) SYN+ACK (r .2) in
-    (r .0, r .1, rw flags, λ o. flags)
+    let flags = eqb-true (r .0 .flags) SYN+ACK (r .3) in
+    (r .0, r .1, r .2, rw flags, λ o. flags)
 answered-in (suc zero) L known e =
     let r = some-in (λ g. ack (g .flags) =ᵇ 1) (receivedBy 1 L) e in
-    (r .0, r .1, eqb-true (ack (r .0 .flags)) 1 (r .2), λ o. absurd (omega arith))
+    (r .0, r .1, r .2, eqb-true (ack (r .0 .flags)) 1 (r .3), λ o. absurd (omega arith))
 answered-in (suc (suc i)) L known e = absurd (omega arith)
 
 -- a first segment, by its end
 pub record FirstFacts (P : Pair) (p : LineSegment) : Type 0 where
   pub end : endOf p ≡ P .start (p .from) + 1
-  pub no-reset : rst (p .flags) ≡ 1 → ⊥
+  pub no-reset : NoReset p
   pub a-syn : syn (p .flags) ≡ 1
   pub opener : p .from ≡ 0 → p .flags ≡ SYN
   pub answerer : p .from ≡ 1 → p .flags ≡ SYN+ACK
@@ -226,7 +238,7 @@ module _ {Call : Type 0} (P : Pair) where
   pub record Fact (h : List LineSegment) (p : LineSegment) (s : ℕ) (L : List (Event Call)) : Type 0 where
     pub end-known : p .from < 2
     pub formed : Formed p
-    pub no-reset : rst (p .flags) ≡ 1 → ⊥
+    pub no-reset : NoReset p
     pub kind : First P p s ⊎ Later p s L
     pub snapshot-low : s ≤ p .start
     pub acks-syn : ack (p .flags) ≡ 1 → P .start (1 - p .from) + 1 ≤ p .acked
@@ -240,22 +252,24 @@ module _ {Call : Type 0} (P : Pair) where
     pub snapshot-passed : s ≤ max (P .start (p .from) + 1) (highest (ackFrom (1 - p .from)) h)
 
   pub record Protocol (h : List LineSegment) (Arrived : ℕ → LineSegment → Type 0) (L : List (Event Call)) : Type 0 where
-    pub facts : (k : ℕ) (p : LineSegment) (s : ℕ) → SentWith k p s L → Fact h p s L
+    pub senders-known : (k : ℕ) (p : LineSegment) (s : ℕ) → SentWith k p s L → p .from < 2
+    pub facts : (k : ℕ) (p : LineSegment) (s : ℕ) → SentWith k p s L → NoReset p → Fact h p s L
     pub order :
-        (k : ℕ) (p : LineSegment) (s k' : ℕ) (p' : LineSegment) (s' : ℕ) → SentWith k p s L → SentWith k' p' s' L → p .from ≡ p' .from →
-        k ≤ k' →
+        (k : ℕ) (p : LineSegment) (s k' : ℕ) (p' : LineSegment) (s' : ℕ) → SentWith k p s L → SentWith k' p' s' L → NoReset p → NoReset p' →
+        p .from ≡ p' .from → k ≤ k' →
         (s ≤ s') × (ack (p .flags) ≡ 1 → ack (p' .flags) ≡ 1 → p .acked ≤ p' .acked)
     pub received : (i : ℕ) (p : LineSegment) → In p (receivedBy i L) → In p h × (p .from ≡ i → ⊥)
     pub arrived : (k : ℕ) (p : LineSegment) → Arrived k p → (s : ℕ) × SentWith k p s L
-    pub passed : (p : LineSegment) → In p h → (k : ℕ) × Arrived k p
+    -- a reset may be anybody's
+    pub passed : (p : LineSegment) → In p h → NoReset p → (k : ℕ) × Arrived k p
 
   -- a segment that has passed was sent
   pub passed-sent :
       (h : List LineSegment) (Arrived : ℕ → LineSegment → Type 0) (L : List (Event Call)) → Protocol h Arrived L → (p : LineSegment) →
-      In p h →
+      In p h → NoReset p →
       (k : ℕ) × (s : ℕ) × Arrived k p × SentWith k p s L
-  passed-sent h Arrived L inv p there =
-      let a = inv .passed p there in
+  passed-sent h Arrived L inv p there none =
+      let a = inv .passed p there none in
       let b = inv .arrived (a .0) p (a .1) in
       (a .0, b .0, a .1, b .1)
 
@@ -287,35 +301,32 @@ module _ {Call : Type 0} (P : Pair) where
   module _
       (h : List LineSegment) (Arrived : ℕ → LineSegment → Type 0) (L : List (Event Call)) (inv : Protocol h Arrived L)
       (i : ℕ) (known : i < 2) where
-    received-fact : (g : LineSegment) → In g (receivedBy i L) → (s : ℕ) × Fact h g s L
-    received-fact g there =
-        let r = passed-sent h Arrived L inv g (inv .received i g there .0) in (r .1, inv .facts (r .0) g (r .1) (r .3))
+    received-fact : (g : LineSegment) → In g (receivedBy i L) → NoReset g → (s : ℕ) × Fact h g s L
+    received-fact g there none =
+        let r = passed-sent h Arrived L inv g (inv .received i g there .0) none in (r .1, inv .facts (r .0) g (r .1) (r .3) none)
 
-    theirs : (g : LineSegment) → In g (receivedBy i L) → g .from ≡ 1 - i
-    theirs g there = omega (arith, received-fact g there .1 .end-known, inv .received i g there .1)
+    theirs : (g : LineSegment) → In g (receivedBy i L) → NoReset g → g .from ≡ 1 - i
+    theirs g there none = omega (arith, received-fact g there none .1 .end-known, inv .received i g there .1)
 
     pub heard-ends : highest endOf (receivedBy i L) ≤ numbersOf (1 - i) h .end
-    heard-ends = highest-lub endOf _ (receivedBy i L) (λ g there.
-        let f = received-fact g there .1 in
-        rw (endBy-mine (1 - i) g (f .no-reset) (theirs g there)) at (numbers-up (1 - i) g h (inv .received i g there .0) .0))
+    heard-ends = highest-lub endOf _ (receivedBy i L) (λ g there none.
+        rw (endBy-mine (1 - i) g none (theirs g there none)) at (numbers-up (1 - i) g h (inv .received i g there .0) .0))
 
     pub heard-edges : highest edgeOf (receivedBy i L) ≤ numbersOf i h .edge
-    heard-edges = highest-lub edgeOf _ (receivedBy i L) (λ g there.
-        let f = received-fact g there .1 in
-        omega (arith, edgeOf≤edgeBy i g (f .no-reset) (inv .received i g there .1), numbers-up i g h (inv .received i g there .0) .1))
+    heard-edges = highest-lub edgeOf _ (receivedBy i L) (λ g there none.
+        omega (arith, edgeOf≤edgeBy i g none (inv .received i g there .1), numbers-up i g h (inv .received i g there .0) .1))
 
     pub heard-acks : highest ackOf (receivedBy i L) ≤ highest (ackFrom (1 - i)) h
-    heard-acks = highest-lub ackOf _ (receivedBy i L) (λ g there.
-        let mine : ackFrom (1 - i) g ≡ ackOf g = if-= _ _ (theirs g there) in
-        rw mine at (highest-up (ackFrom (1 - i)) g h (inv .received i g there .0)))
+    heard-acks = highest-lub ackOf _ (receivedBy i L) (λ g there none.
+        let mine : ackFrom (1 - i) g ≡ ackOf g = if-= _ _ (theirs g there none) in
+        rw mine at (highest-up (ackFrom (1 - i)) g h (inv .received i g there .0) none))
 
     -- a right edge received is no further than the acknowledgement received and the largest window passed
     pub heard-windows : highest edgeOf (receivedBy i L) ≤ highest ackOf (receivedBy i L) + numbersOf (1 - i) h .win
-    heard-windows = highest-lub edgeOf _ (receivedBy i L) (λ g there.
-        let f = received-fact g there .1 in
+    heard-windows = highest-lub edgeOf _ (receivedBy i L) (λ g there none.
         let window : g .window ≤ numbersOf (1 - i) h .win =
-        rw (windowBy-mine (1 - i) g (f .no-reset) (theirs g there)) at (numbers-up (1 - i) g h (inv .received i g there .0) .2) in
-        granted g (highest ackOf (receivedBy i L)) (numbersOf (1 - i) h .win) window (win-some (1 - i) h) (highest-up ackOf g (receivedBy i L) there))
+        rw (windowBy-mine (1 - i) g none (theirs g there none)) at (numbers-up (1 - i) g h (inv .received i g there .0) .2) in
+        granted g (highest ackOf (receivedBy i L)) (numbersOf (1 - i) h .win) window (win-some (1 - i) h) (highest-up ackOf g (receivedBy i L) there none))
       where
         granted : (g : LineSegment) (top win : ℕ) → g .window ≤ win → 1 ≤ win → ackOf g ≤ top → edgeOf g ≤ top + win
         granted g top win small some below = by (eqb (ack (g .flags)) 1) refl
@@ -331,11 +342,11 @@ module _ {Call : Type 0} (P : Pair) where
     pub answered-heard : hasAnswer i L ≡ true → P .start i + 1 ≤ highest ackOf (receivedBy i L)
     answered-heard e =
         let r = answered-in i L known e in
-        let f = received-fact (r .0) (r .1) .1 in
-        let me : 1 - r .0 .from ≡ i = omega (arith, theirs (r .0) (r .1)) in
-        let acks : ackOf (r .0) ≡ r .0 .acked = if-= _ _ (r .2) in
-        let low : P .start i + 1 ≤ r .0 .acked = rw me at (f .acks-syn (r .2)) in
-        omega (arith, acks, highest-up ackOf (r .0) (receivedBy i L) (r .1))
+        let f = received-fact (r .0) (r .1) (r .2) .1 in
+        let me : 1 - r .0 .from ≡ i = omega (arith, theirs (r .0) (r .1) (r .2)) in
+        let acks : ackOf (r .0) ≡ r .0 .acked = if-= _ _ (r .3) in
+        let low : P .start i + 1 ≤ r .0 .acked = rw me at (f .acks-syn (r .3)) in
+        omega (arith, acks, highest-up ackOf (r .0) (receivedBy i L) (r .1) (r .2))
 
   -- A sending
 
@@ -378,20 +389,22 @@ module _ {Call : Type 0} (P : Pair) where
           snapshot-passed = omega (arith, heard, heard-acks h Arrived L inv (p .from) known);
         }
 
-    pub fact-sent : Sending P p L → Fact h p (snapshot p L) L
-    fact-sent (first known rule unanswered) = fact-first known rule
-    fact-sent (after rule) = fact-later rule
+    pub fact-sent : Sending P p L → NoReset p → Fact h p (snapshot p L) L
+    fact-sent (first known rule unanswered) none = fact-first known rule
+    fact-sent (after rule) none = fact-later rule
+    fact-sent (of-reset known is) none = absurd (none is)
 
     -- an earlier sending of the same end has no higher snapshot and no higher acknowledgement
     earlier :
-        Sending P p L → (k : ℕ) (g : LineSegment) (s : ℕ) → SentWith k g s L → g .from ≡ p .from →
+        Sending P p L → NoReset p → (k : ℕ) (g : LineSegment) (s : ℕ) → SentWith k g s L → NoReset g → g .from ≡ p .from →
         (s ≤ snapshot p L) × (ack (g .flags) ≡ 1 → ack (p .flags) ≡ 1 → g .acked ≤ p .acked)
-    earlier (first known rule unanswered) k g s sent same =
+    earlier (of-reset known is) none k g s sent no-reset same = absurd (none is)
+    earlier (first known rule unanswered) none k g s sent no-reset same =
         let f = first-facts P p formed rule in
         let own : snapshot p L ≡ p .start = if-= _ _ (f .a-syn) in
         ⊎-elim
         (λ (a : First P g s).
-        let e = inv .facts k g s sent in
+        let e = inv .facts k g s sent no-reset in
         let ff = first-facts P g (e .formed) (a .rule) in
         let begins : P .start (g .from) ≡ P .start (p .from) = ap (P .start) same in
         let begins' : P .start (1 - g .from) ≡ P .start (1 - p .from) = ap (λ (i : ℕ). P .start (1 - i)) same in (
@@ -399,26 +412,26 @@ module _ {Call : Type 0} (P : Pair) where
           λ acks acks'. omega (arith, first-acks P g (e .end-known) (a .rule) ff acks, first-acks P p known rule f acks'),
         ))
         (λ (b : Later g s L). false-true (sym unanswered ∙ subst (λ (i : ℕ). hasAnswer i L ≡ true) same (b .answered-now)))
-        (inv .facts k g s sent .kind)
-    earlier (after rule) k g s sent same =
+        (inv .facts k g s sent no-reset .kind)
+    earlier (after rule) none k g s sent no-reset same =
         let heard : snapshot p L ≡ highest ackOf (receivedBy (p .from) L) = if-=-not _ _ (λ (e : syn (p .flags) ≡ 1). omega (arith, rule .no-syn)) in
         let before : ack (g .flags) ≡ 1 → ack (p .flags) ≡ 1 → g .acked ≤ p .acked = λ (acks : ack (g .flags) ≡ 1) (acks' : ack (p .flags) ≡ 1).
         let own : ackOf g ≡ g .acked = if-= _ _ acks in
         let there = subst (λ (i : ℕ). In g (sentBy i L)) same (sent-in k g s L sent .0) in
-        omega (arith, own, highest-up ackOf g (sentBy (p .from) L) there, rule .acks-rise) in
+        omega (arith, own, highest-up ackOf g (sentBy (p .from) L) there no-reset, rule .acks-rise) in
         ⊎-elim
         (λ (a : First P g s).
         let begins : P .start (g .from) ≡ P .start (p .from) = ap (P .start) same in
         (omega (arith, heard, a .own-start, a .rule .start, answered-heard h Arrived L inv (p .from) (rule .by-either) (rule .after-answer)), before))
         (λ (b : Later g s L). (omega (arith, heard, subst (λ (i : ℕ). s ≤ highest ackOf (receivedBy i L)) same (b .heard)), before))
-        (inv .facts k g s sent .kind)
+        (inv .facts k g s sent no-reset .kind)
 
     -- the sendings with one more
     order-sent :
         Sending P p L → (k : ℕ) (g : LineSegment) (s k' : ℕ) (g' : LineSegment) (s' : ℕ) → SentWith k g s (send p ∷ L) →
-        SentWith k' g' s' (send p ∷ L) → g .from ≡ g' .from → k ≤ k' →
+        SentWith k' g' s' (send p ∷ L) → NoReset g → NoReset g' → g .from ≡ g' .from → k ≤ k' →
         (s ≤ s') × (ack (g .flags) ≡ 1 → ack (g' .flags) ≡ 1 → g .acked ≤ g' .acked)
-    order-sent honest k g s k' g' s' sent sent' same in-order =
+    order-sent honest k g s k' g' s' sent sent' none none' same in-order =
         ⊎-elim
         (λ (now : Now k g s). ⊎-elim
         (λ (now' : Now k' g' s'). both-now now now')
@@ -426,12 +439,15 @@ module _ {Call : Type 0} (P : Pair) where
         sent')
         (λ (before : SentWith k g s L). ⊎-elim
         (λ (now' : Now k' g' s'). one-now before now')
-        (λ (before' : SentWith k' g' s' L). inv .order k g s k' g' s' before before' same in-order)
+        (λ (before' : SentWith k' g' s' L). inv .order k g s k' g' s' before before' none none' same in-order)
         sent')
         sent
       where
         Now : ℕ → LineSegment → ℕ → Type 0
         Now j f r = (f ≡ p) × (j ≡ length (sentBy (p .from) L)) × (r ≡ snapshot p L)
+
+        is-no-reset : Now k' g' s' → NoReset p
+        is-no-reset now' is = none' (ap (λ (f : LineSegment). rst (f .flags)) (now' .0) ∙ is)
 
         both-now : Now k g s → Now k' g' s' → (s ≤ s') × (ack (g .flags) ≡ 1 → ack (g' .flags) ≡ 1 → g .acked ≤ g' .acked)
         both-now now now' =
@@ -440,7 +456,7 @@ module _ {Call : Type 0} (P : Pair) where
 
         one-now : SentWith k g s L → Now k' g' s' → (s ≤ s') × (ack (g .flags) ≡ 1 → ack (g' .flags) ≡ 1 → g .acked ≤ g' .acked)
         one-now before now' =
-            let e = earlier honest k g s before (same ∙ ap (λ (f : LineSegment). f .from) (now' .0)) in
+            let e = earlier honest (is-no-reset now') k g s before none (same ∙ ap (λ (f : LineSegment). f .from) (now' .0)) in
             let flags : ack (g' .flags) ≡ ack (p .flags) = ap (λ (f : LineSegment). ack (f .flags)) (now' .0) in
             let acked : g' .acked ≡ p .acked = ap (λ (f : LineSegment). f .acked) (now' .0) in
             (omega (arith, e .0, now' .2), λ a b. omega (arith, e .1 a (sym flags ∙ b)))
@@ -455,12 +471,18 @@ module _ {Call : Type 0} (P : Pair) where
     pub protocol-sent : Sending P p L → Protocol h Arrived (send p ∷ L)
     unfolding receivedBy
     protocol-sent honest = record {
-      facts = λ k g s sent. ⊎-elim
+      senders-known = λ k g s sent. ⊎-elim
           (λ (now : (g ≡ p) × (k ≡ length (sentBy (p .from) L)) × (s ≡ snapshot p L)).
+          subst (λ (f : LineSegment). f .from < 2) (sym (now .0)) (sender-known P p L honest))
+          (λ (before : SentWith k g s L). inv .senders-known k g s before)
+          sent;
+      facts = λ k g s sent none. ⊎-elim
+          (λ (now : (g ≡ p) × (k ≡ length (sentBy (p .from) L)) × (s ≡ snapshot p L)).
+          let no-reset : NoReset p = λ is. none (ap (λ (f : LineSegment). rst (f .flags)) (now .0) ∙ is) in
           subst (λ (f : LineSegment). Fact h f s (send p ∷ L)) (sym (now .0))
           (subst (λ (r : ℕ). Fact h p r (send p ∷ L)) (sym (now .2))
-          (fact-kept h h p (snapshot p L) L (send p ∷ L) (rises-same h) (grows-send p L) (fact-sent honest))))
-          (λ (before : SentWith k g s L). fact-kept h h g s L (send p ∷ L) (rises-same h) (grows-send p L) (inv .facts k g s before))
+          (fact-kept h h p (snapshot p L) L (send p ∷ L) (rises-same h) (grows-send p L) (fact-sent honest no-reset))))
+          (λ (before : SentWith k g s L). fact-kept h h g s L (send p ∷ L) (rises-same h) (grows-send p L) (inv .facts k g s before none))
           sent;
       order = order-sent honest;
       received = inv .received;
@@ -476,7 +498,8 @@ module _ {Call : Type 0} (P : Pair) where
       Protocol h Arrived (delivery k p ∷ L)
   unfolding receivedBy
   protocol-delivered h Arrived L k p inv there = record {
-    facts = λ j g s sent. fact-kept h h g s L (delivery k p ∷ L) (rises-same h) (grows-delivery k p L) (inv .facts j g s sent);
+    senders-known = inv .senders-known;
+    facts = λ j g s sent none. fact-kept h h g s L (delivery k p ∷ L) (rises-same h) (grows-delivery k p L) (inv .facts j g s sent none);
     order = inv .order;
     received = λ i g got. delivered i g (eqb (p .from) i) refl got;
     arrived = inv .arrived;
@@ -505,7 +528,8 @@ module _ {Call : Type 0} (P : Pair) where
     pub protocol-called : Protocol h Arrived (call q l ∷ L)
     unfolding receivedBy
     protocol-called = record {
-      facts = λ j g s sent. fact-kept h h g s L (call q l ∷ L) (rises-same h) grows-call (inv .facts j g s sent);
+      senders-known = inv .senders-known;
+      facts = λ j g s sent none. fact-kept h h g s L (call q l ∷ L) (rises-same h) grows-call (inv .facts j g s sent none);
       order = inv .order;
       received = inv .received;
       arrived = inv .arrived;
@@ -517,7 +541,8 @@ module _ {Call : Type 0} (P : Pair) where
         Protocol (p ∷ h) (λ j g. ((j ≡ k) × (g ≡ p)) ⊎ Arrived j g) (call q l ∷ L)
     unfolding receivedBy
     protocol-passed k p s sent = record {
-      facts = λ j g r was. fact-kept h (p ∷ h) g r L (call q l ∷ L) (rises-more p h) grows-call (inv .facts j g r was);
+      senders-known = inv .senders-known;
+      facts = λ j g r was none. fact-kept h (p ∷ h) g r L (call q l ∷ L) (rises-more p h) grows-call (inv .facts j g r was none);
       order = inv .order;
       received = λ i g got. let r = inv .received i g got in (inr (r .0), r .1);
       arrived = λ j g a. ⊎-elim
@@ -525,8 +550,23 @@ module _ {Call : Type 0} (P : Pair) where
           (s, subst (λ (i : ℕ). SentWith i g s L) (sym (now .0)) (subst (λ (f : LineSegment). SentWith k f s L) (sym (now .1)) sent)))
           (λ (before : Arrived j g). inv .arrived j g before)
           a;
-      passed = λ g there. ⊎-elim
+      passed = λ g there none. ⊎-elim
           (λ (same : g ≡ p). (k, inl (refl, same)))
-          (λ (before : In g h). let r = inv .passed g before in (r .0, inr (r .1)))
+          (λ (before : In g h). let r = inv .passed g before none in (r .0, inr (r .1)))
+          there;
+    }
+
+    -- a reset that is no arrival
+    pub protocol-reset : (p : LineSegment) → rst (p .flags) ≡ 1 → Protocol (p ∷ h) Arrived (call q l ∷ L)
+    unfolding receivedBy
+    protocol-reset p is = record {
+      senders-known = inv .senders-known;
+      facts = λ j g r was none. fact-kept h (p ∷ h) g r L (call q l ∷ L) (rises-more p h) grows-call (inv .facts j g r was none);
+      order = inv .order;
+      received = λ i g got. let r = inv .received i g got in (inr (r .0), r .1);
+      arrived = inv .arrived;
+      passed = λ g there none. ⊎-elim
+          (λ (same : g ≡ p). absurd (none (ap (λ (f : LineSegment). rst (f .flags)) same ∙ is)))
+          (λ (before : In g h). inv .passed g before none)
           there;
     }

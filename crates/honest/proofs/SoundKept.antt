@@ -5,9 +5,9 @@ use mathlib.Core.Logic.{_⊎_, inl, inr, ⊎-elim}
 use mathlib.Core.Bool.{true, false}
 use mathlib.Core.List.{List, [], _∷_}
 use native.Mathlib.Omega.{arith}
-use borrow.Author.Tests.{eq-eqb, eqb-false}
+use borrow.Author.Tests.{eqb-false}
 use Rattle.choice.specs.Choice.{_=ᵇ_}
-use Rattle.choice.proofs.Choice.{if-true, if-either, if-cases}
+use Rattle.choice.proofs.Choice.{if-either, if-cases}
 use Rattle.serial.specs.Ring.{ringPlus}
 use Rattle.serial.specs.Serial.{further}
 use Rattle.serial.specs.declared.SeqNum.{SeqNum}
@@ -17,7 +17,7 @@ use Rattle.address.specs.declared.Flow.{Flow}
 use Rattle.segment.specs.Flags.{rst}
 use Rattle.segment.specs.declared.Segment.{Segment}
 use Rattle.connection.specs.Ends.{zeros, unheard, begun, sent, granted, endsAfter}
-use Rattle.connection.specs.Decision.{verdictOn, free, opened, repeated, answered, carried, passed}
+use Rattle.connection.specs.Decision.{verdictOn, free, opened, repeated, answered, carried, reset, passed}
 use Rattle.connection.specs.Sound.{soundConnection}
 use Rattle.connection.specs.declared.Connection.{Connection}
 use Rattle.connection.specs.declared.End.{End}
@@ -28,6 +28,7 @@ use Rattle.rows.specs.Connections.{connections}
 use Rattle.rows.proofs.Rows.{sender-known, Comes, blocks, passes, makes, comes}
 use Rattle.history.specs.History.{Placeable}
 use Rattle.history.specs.Records.{SeqNumsFit, TwoEnds}
+use Rattle.history.proofs.Demand2.{reset-frees}
 use Rattle.history.proofs.Sound.{opened-sound, passed-sound}
 use Rattle.honest.specs.Sound.{SoundView, TwoEnded, TwoEndedView}
 
@@ -106,16 +107,15 @@ module _ (c : Connection) (x : ℕ → End) (ends : TwoEnds c x) (g : Segment) (
   unfolding carried
   carried-two-ended i h = two-ended _ (rw (ends .two) (endsAfter-two i h))
 
+  reset-two-ended : TwoEnded (reset c now)
+  unfolding reset
+  reset-two-ended = (x, record { two = ends .two; opener = ends .opener; answerer = ends .answerer })
+
   passed-two-ended : (i : ℕ) → i < 2 → TwoEnded (passed c i g now)
   unfolding passed
   passed-two-ended i h =
-      if-either TwoEnded _ _ _ free-two-ended
+      if-either TwoEnded _ _ _ (if-either TwoEnded _ _ _ reset-two-ended free-two-ended)
       (if-either TwoEnded _ _ _ (carried-two-ended i h) (if-either TwoEnded _ _ _ repeated-two-ended answered-two-ended))
-
--- a reset frees
-pub reset-frees : (c : Connection) (i : ℕ) (g : Segment) (now : ℕ) → rst (g .flags) ≡ 1 → passed c i g now ≡ free
-unfolding passed
-reset-frees c i g now reset = if-true _ _ _ (eq-eqb _ _ reset)
 
 -- One entry
 
@@ -157,7 +157,7 @@ module _ (v : View connections) (a : Ask) where
       if-cases (SoundEntry now) (passed (e .connection) i g now .stage =ᵇ 0) _ _
       (λ _. free-sound _)
       (λ in-use. record {
-        sound = inr (passed-sound (v .clock) (e .connection) x ends not-free i known g placeable now verdict (no-reset in-use));
+        sound = inr (passed-sound (v .clock) (e .connection) x ends not-free i known g placeable now verdict (kept in-use));
         two-ended = passed-two-ended (e .connection) x ends g now i known;
       })
     where
@@ -165,8 +165,9 @@ module _ (v : View connections) (a : Ask) where
       not-free =
           ⊎-elim (λ free. absurd (omega (arith, ap (λ (f : Entry connections). f .connection .deadline) free))) (λ sound. sound) (s .sound)
 
-      no-reset : passed (e .connection) i g now .stage =ᵇ 0 ≡ false → rst (g .flags) ≡ 1 → ⊥
-      no-reset in-use reset = eqb-false _ _ in-use (ap (λ (c : Connection). c .stage) (reset-frees (e .connection) i g now reset))
+      kept : passed (e .connection) i g now .stage =ᵇ 0 ≡ false → e .connection .stage ≡ 1 → rst (g .flags) ≡ 1 → ⊥
+      kept in-use first is-reset =
+          eqb-false _ _ in-use (ap (λ (c : Connection). c .stage) (reset-frees (e .connection) i g now first is-reset))
 
   -- what a pass leaves: at a place of the view, by the clock used, an entry that is free or sound, with addresses and ports of a free
   -- entry, of the call or of the entry that was there

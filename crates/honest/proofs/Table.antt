@@ -10,8 +10,9 @@ use Rattle.choice.proofs.Choice.{if-true, if-false, if-either, if-cases, if-=, 
 use Rattle.choice.proofs.Tests.{&&-true, false-true}
 use Rattle.address.specs.Flows.{reversed}
 use Rattle.address.specs.declared.Flow.{Flow}
+use Rattle.segment.specs.Flags.{rst, SYN}
 use Rattle.segment.specs.declared.Segment.{Segment}
-use Rattle.connection.specs.Decision.{opened, passed, carried, repeated, answered}
+use Rattle.connection.specs.Decision.{opened, passed, carried, repeated, answered, reset}
 use Rattle.connection.specs.declared.Connection.{Connection}
 use Rattle.connection.proofs.Sound.{sound-facts}
 use Rattle.rows.specs.Rows as rows
@@ -21,6 +22,7 @@ use Rattle.rows.specs.declared.Found.the-variants.{At, Nothing}
 use Rattle.rows.proofs.Places.{nothing-at, found-by, none-if-nothing}
 use Rattle.rows.proofs.Matches.{EndOf, matches, matches-end, end-matches, far-end, same-end, mutual-end, live-match, unfound-expired, expired-unfound}
 use Rattle.rows.proofs.Rows.{Comes, blocks, passes, makes, comes, pass-writes, pass-keeps}
+use Rattle.history.proofs.Pass.{passed-reset}
 use Rattle.honest.specs.Sound.{SoundView}
 use Rattle.honest.specs.Rules.{Pair, sideOf, keyOf}
 
@@ -91,10 +93,10 @@ module _ (P : Pair) where
 
   -- a pass keeps the side, or frees
   passed-side : (c : Connection) (i : ℕ) (g : Segment) (now : ℕ) → (passed c i g now .deadline ≡ 0) ⊎ (passed c i g now .side ≡ c .side)
-  unfolding passed carried repeated answered
+  unfolding passed carried repeated answered reset
   passed-side c i g now =
       let kept : Connection → Type 0 = λ x. (x .deadline ≡ 0) ⊎ (x .side ≡ c .side) in
-      if-either kept _ _ _ (inl refl) (if-either kept _ _ _ (inr refl) (if-either kept _ _ _ (inr refl) (inr refl)))
+      if-either kept _ _ _ (if-either kept _ _ _ (inr refl) (inl refl)) (if-either kept _ _ _ (inr refl) (if-either kept _ _ _ (inr refl) (inr refl)))
 
   -- so it leaves an entry that is not of the pair not of it, or expired
   pass-stays-out :
@@ -258,6 +260,50 @@ module _ (P : Pair) where
       written-here v p now _ c' (o .inside) refl same-side,
       others-stay v p now p _ (λ r inside r≠p m. omega (arith, others r inside r≠p m)) (λ out. absurd (out refl)),
     )
+
+    -- a reset that passes on ours from stage 2 on
+    reset-entry : (c : Connection) (now : ℕ) → entryWith connections (ours c) (reset c now) ≡ ours (reset c now)
+    unfolding entryWith reset if_then_else_
+    reset-entry c now = refl
+
+    pub reset-on-ours :
+        (p : ℕ) (c : Connection) (a : Ask) → OurEntry v p c → answerOf connections (filter connections v a) ≡ 0 →
+        ((q : ℕ) → rows.search connections v (used a) (a .side) (a .key) ≡ At q → (now : ℕ) (e : Entry connections) →
+        filter connections v a ≡ Passed q now e → q ≡ p) →
+        rst (a .segment .flags) ≡ 1 → (c .stage ≡ 1 → ⊥) →
+        filter connections v a ≡ Passed p (used a) (ours (reset c (used a)))
+    reset-on-ours p c a o passed-0 at-ours is-reset later = go (comes connections v (used a) (a .side) (a .key) (a .segment))
+      where
+        go :
+            Comes connections v (used a) (a .side) (a .key) (a .segment) (filter connections v a) →
+            filter connections v a ≡ Passed p (used a) (ours (reset c (used a)))
+        go (blocks n is low high) = absurd (omega (arith, low, ap (answerOf connections) is, passed-0))
+        go (makes q is none _ opening) =
+            absurd (omega (arith, eqb-true (a .segment .flags) SYN (&&-true (a .side =ᵇ 0) _ opening .1), is-reset))
+        go (passes q is found _ _ _) =
+            let here = at-ours q found _ _ is in
+            let left : entryAfter connections (v .entry q) (senderOf connections (v .entry q) (a .side)) (a .segment) (used a) ≡ ours (reset c (used a)) =
+            ap (λ (e : Entry connections). entryAfter connections e (senderOf connections e (a .side)) (a .segment) (used a)) (ap (v .entry) here ∙ o .there)
+            ∙ ap (entryWith connections (ours c)) (passed-reset c _ (a .segment) (used a) is-reset later)
+            ∙ reset-entry c (used a) in
+            is ∙ λ i. Passed (here i) (used a) (left i)
+
+  -- a pass of a call that finds a place is at that place
+  pub found-place :
+      (v : View connections) (number : ℕ → ℕ) (p : ℕ) (a : Ask) →
+      rows.search connections v (clockUsed connections v a) (a .side) (a .key) ≡ At p → answerOf connections (filter connections v a) ≡ 0 →
+      placeBy number (filter connections v a) ≡ number p
+  found-place v number p a found passed-0 = go (comes connections v (clockUsed connections v a) (a .side) (a .key) (a .segment))
+    where
+      go :
+          Comes connections v (clockUsed connections v a) (a .side) (a .key) (a .segment) (filter connections v a) →
+          placeBy number (filter connections v a) ≡ number p
+      go (blocks n is low high) = absurd (omega (arith, low, ap (answerOf connections) is, passed-0))
+      go (makes q is none _ _) = nothing-at p (sym none ∙ found)
+      go (passes q is found-q _ _ _) =
+          let both : At q ≡ At p = sym found-q ∙ found in
+          let same : q ≡ p = cc in
+          ap (placeBy number) is ∙ ap number same
 
   -- a pass stores the clock used
   pub pass-clock :

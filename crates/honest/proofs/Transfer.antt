@@ -2,22 +2,24 @@
 use Prim.Native.Nat.{ℕ, zero, suc, _+_, max}
 use mathlib.Core.Path.{_≡_, refl, sym, ap, _∙_}
 use mathlib.Core.Logic.{inl, inr, ⊎-elim}
-use mathlib.Core.Bool.{true, false}
+use mathlib.Core.Bool.{true, false, _&&_, and-false}
 use mathlib.Core.List.{List, [], _∷_, map, reverse}
 use native.Mathlib.Omega.{arith}
 use lib.ListN.{length}
 use borrow.Author.Tests.{ne-eqb}
-use Rattle.choice.specs.Choice.{if_then_else_, _=ᵇ_}
+use Rattle.choice.specs.Choice.{if_then_else_, _<ᵇ_, _=ᵇ_}
+use Rattle.choice.proofs.Choice.{if-false, if-either, if-ap}
 use Rattle.choice.proofs.Tests.{false-true}
 use Rattle.connection.specs.Stages.{lifeOf}
 use Rattle.rows.specs.Rows.{View}
 use Rattle.rows.specs.Connections.{connections}
 use Rattle.history.specs.History.{LineSegment, stageOf}
-use Rattle.honest.specs.Machine.{refused, asks, Machine, clockIn, KeepsTo}
-use Rattle.honest.specs.Rules.{Label, opening, arrival, other, Event, send, call, delivery, Pair, sentBy, Sent, Arrived, receivedBy, hasAnswer, Allowed, openers-syn, answerers-syn-ack, later}
-use Rattle.honest.specs.Honest.{Told, passes, nextClock, afterSegment, afterCall, told, said, WasPassed, Arrives, FairCall, Legal}
+use Rattle.honest.specs.Machine.{refused, asks, Machine, clockIn, asksHere, bringsReset, KeepsTo}
+use Rattle.honest.specs.Rules.{Label, opening, arrival, other, Event, send, call, delivery, Pair, sentBy, Sent, Arrived, receivedBy, hasAnswer, Allowed, openers-syn, answerers-syn-ack, later, any-reset}
+use Rattle.honest.specs.Honest.{Told, passes, nextClock, afterSegment, passedOnOurs, someReset, afterElsewhere, afterCall, told, said, WasPassed, Arrives, FairCall, Legal}
 use Rattle.honest.specs.Instance.{ViewCall, viewMachine}
 use Rattle.honest.specs.Carries.{Carries, none, sent, called, refused-alone, delivered, LegalCarried, withCall, withOther, readings, ifAsked, othersSaid, summaryOf, SummaryCarried}
+use Rattle.honest.proofs.Demand3.{on-ours-facts}
 
 -- What ends have sent and received, and what has arrived
 
@@ -88,6 +90,7 @@ module _ (M : Machine) where
         acks-rise = rw (sentBy-same (p .from) c) (r .acks-rise);
         no-reset = r .no-reset;
       }
+  allowed-carried P p c (any-reset r) = any-reset record { by-either = r .by-either; is-reset = r .is-reset }
 
   -- a list with each call made from the rows', where all are read as what they were made from
   pub made-carries :
@@ -148,11 +151,8 @@ module _ (M : Machine) (Sound : M .State → Type 0) (keeps : KeepsTo M Sound) (
       until = if same-pass i then same-clock i + lifeOf (stageOf (p ∷ t .history)) else t .until;
     }
 
-    same-after : (l : Label) → afterCall F (viewed t) b l ≡ viewed (afterCall M t q l)
-    unfolding afterCall
-    same-after (opening k p) = same-segment _ _ p (keeps .place-by-rows (t .state) q (b .0) kept is)
-    same-after (arrival k p) = same-segment _ _ p refl
-    same-after other = λ i. record {
+    same-elsewhere : afterElsewhere F (viewed t) b ≡ viewed (afterElsewhere M t q)
+    same-elsewhere = λ i. record {
       state = sym (keeps .view-by-rows (t .state) q (b .0) kept is) i;
       openingSeen = t .openingSeen;
       place = t .place;
@@ -160,6 +160,20 @@ module _ (M : Machine) (Sound : M .State → Type 0) (keeps : KeepsTo M Sound) (
       passClock = same-clock i;
       until = t .until;
     }
+
+    same-ours : passedOnOurs F (viewed t) b ≡ passedOnOurs M t q
+    unfolding passedOnOurs
+    same-ours =
+        let place = sym (keeps .place-by-rows (t .state) q (b .0) kept is) in
+        λ i. t .openingSeen && ((max (clockIn (sym is i)) (t .passClock) <ᵇ t .until) && (asksHere (sym is i) && (same-pass i && (place i =ᵇ t .place))))
+
+    same-after : (l : Label) → afterCall F (viewed t) b l ≡ viewed (afterCall M t q l)
+    unfolding afterCall
+    same-after (opening k p) = same-segment _ _ p (keeps .place-by-rows (t .state) q (b .0) kept is)
+    same-after (arrival k p) = same-segment _ _ p refl
+    same-after other =
+        (λ i. if same-ours i && bringsReset (sym is i) then same-segment (t .place) (t .place) (someReset M) refl i else same-elsewhere i)
+        ∙ sym (if-ap viewed _ _ _)
 
   -- a refused call is blocked and tells nothing
   module _ (t : Told M) (kept : Sound (t .state)) (q : M .Call) (n place : ℕ) (is : M .reads q ≡ refused n place) where
@@ -170,9 +184,9 @@ module _ (M : Machine) (Sound : M .State → Type 0) (keeps : KeepsTo M Sound) (
     unfolding passes
     refused-no-pass = ne-eqb _ 0 refused-not-0
 
-    refused-tells-nothing : viewed t ≡ viewed (afterCall M t q other)
-    unfolding afterCall if_then_else_
-    refused-tells-nothing = λ i. record {
+    refused-elsewhere : viewed t ≡ viewed (afterElsewhere M t q)
+    unfolding if_then_else_
+    refused-elsewhere = λ i. record {
       state = sym (keeps .blocked-keeps (t .state) q refused-not-0) i;
       openingSeen = t .openingSeen;
       place = t .place;
@@ -181,11 +195,16 @@ module _ (M : Machine) (Sound : M .State → Type 0) (keeps : KeepsTo M Sound) (
       until = t .until;
     }
 
+    refused-tells-nothing : viewed t ≡ viewed (afterCall M t q other)
+    unfolding afterCall
+    refused-tells-nothing =
+        refused-elsewhere ∙ ap viewed (sym (if-false _ _ _ (ap (λ r. passedOnOurs M t q && bringsReset r) is ∙ and-false (passedOnOurs M t q))))
+
   after-sound : (t : Told M) → Sound (t .state) → (q : M .Call) (l : Label) → Sound (afterCall M t q l .state)
   unfolding afterCall
   after-sound t kept q (opening k p) = keeps .sound-kept (t .state) q kept
   after-sound t kept q (arrival k p) = keeps .sound-kept (t .state) q kept
-  after-sound t kept q other = keeps .sound-kept (t .state) q kept
+  after-sound t kept q other = if-either (λ (x : Told M). Sound (x .state)) _ _ _ (keeps .sound-kept (t .state) q kept) (keeps .sound-kept (t .state) q kept)
 
   told-sound : {L : Carrying M} {N : Carried M} → Carries M L N → Sound (told M s₀ L .state)
   unfolding told
@@ -252,16 +271,12 @@ module _ (M : Machine) (Sound : M .State → Type 0) (keeps : KeepsTo M Sound) (
       fair-call-carried P (arrival k p) r = record {
         after-opening = opened-same ∙ r .after-opening;
         arrives = arrives-carried P k p (r .arrives);
-        in-order = λ j g was. r .in-order j g (arrived-carries M j g c was);
+        in-order = λ none j g was. r .in-order none j g (arrived-carries M j g c was);
         live = omega (arith, r .live, clock-given, clock-same, until-same);
+        reset-passes = λ reset. passes-same ∙ r .reset-passes reset;
       }
-      fair-call-carried P other elsewhere = λ on-ours. elsewhere record {
-        after-opening = sym opened-same ∙ on-ours .after-opening;
-        live = omega (arith, on-ours .live, clock-given, clock-same, until-same);
-        not-apart = λ never. false-true cc;
-        answered-0 = sym passes-same ∙ on-ours .answered-0;
-        place = sym said-place-same ∙ on-ours .place ∙ place-same;
-      }
+      fair-call-carried P other fair = λ ours-is.
+          ap bringsReset is ∙ fair (ap (λ (t : Told F). passedOnOurs F t b) (told-same c) ∙ same-ours (told M s₀ L) (told-sound c) q b is ∙ ours-is)
 
   passed-carried : (k : ℕ) (p : LineSegment) {L : Carrying M} {N : Carried M} → Carries M L N → WasPassed F t₀ k p N → WasPassed M s₀ k p L
   passed-carried k p none was = was
@@ -277,8 +292,8 @@ module _ (M : Machine) (Sound : M .State → Type 0) (keeps : KeepsTo M Sound) (
   legal-along P none legal = tt
   legal-along P (sent {p = p} c) legal = (record { allowed = allowed-carried M P p c (legal .0 .allowed); formed = legal .0 .formed }, legal-along P c (legal .1))
   legal-along P (called {q = q} {b = b} {l = l} is c) legal = (fair-call-carried c q b is P l (legal .0), legal-along P c (legal .1))
-  legal-along P (refused-alone {q = q} {n = n} {place = at} is c) legal =
-      (λ on-ours. false-true (sym (refused-no-pass _ (told-sound c) q n at is) ∙ on-ours .answered-0), legal-along P c legal)
+  legal-along P (refused-alone {q = q} {L = L} is c) legal =
+      (λ ours-is. false-true (sym (ap asksHere is) ∙ on-ours-facts M (told M s₀ L) q ours-is .here), legal-along P c legal)
   legal-along P (delivered {k = k} {p = p} c) legal = (passed-carried k p c (legal .0), legal-along P c (legal .1))
 
   others-same : {L : Carrying M} {N : Carried M} → Carries M L N → othersSaid M s₀ L ≡ othersSaid F t₀ N

@@ -9,13 +9,13 @@ use Rattle.address.specs.Flows.{sameFlow}
 use Rattle.connection.specs.Ends.{sent, granted, endsAfter}
 use Rattle.connection.specs.Ranges.{sequenceMet, ackMet}
 use Rattle.connection.specs.Stages.{lifeOf, withFin, finsAfter, openStage, stageAfter}
-use Rattle.connection.specs.Decision.{sameSyn, reply, verdictUnanswered, verdictByRanges, verdictOn, opened, repeated, answered, carried, passed}
+use Rattle.connection.specs.Decision.{sameSyn, reply, verdictUnanswered, verdictByRanges, verdictOn, opened, repeated, answered, carried, reset, passed}
 use Rattle.rows.specs.Places.{firstFrom}
 use Rattle.rows.specs.Rows.{fromOpener, fromAnswerer, liveMatch, vacant, senderOf, entryWith, onEntry, openingEntry, unmatched, onSegment}
 use Rattle.history.specs.History.{finsOf, stageOf}
 use Rattle.honest.specs.Rules
 use Rattle.honest.specs.Rules.{sentBy, receivedBy, highest, some}
-use Rattle.honest.specs.Honest.{passes, afterCall, told, Legal, NeverBlocked}
+use Rattle.honest.specs.Honest.{passes, passedOnOurs, afterCall, told, Legal, NeverBlocked}
 use Rattle.honest.specs.Instance.{viewMachine}
 use Rattle.honest.specs.Carries.{summaryOf}
 use Rattle.honest.specs.Marked.{empty}
@@ -26,14 +26,14 @@ use Rattle.honest.proofs.Check.{legal?, legal?-sound}
 computed :
     (legal? empty pair witness ≡ true)
     × (summaryOf (viewMachine (λ p. p)) empty witness ≡ comesTo)
-unfolding if_then_else_ wrap ringPlus ringMinus nearest further sent granted endsAfter sequenceMet ackMet lifeOf withFin finsAfter openStage stageAfter sameSyn reply verdictUnanswered verdictByRanges verdictOn opened repeated answered carried passed finsOf stageOf firstFrom fromOpener fromAnswerer liveMatch vacant senderOf entryWith onEntry openingEntry unmatched onSegment sameFlow sentBy receivedBy highest some passes afterCall told Rules.hasAnswer
+unfolding if_then_else_ wrap ringPlus ringMinus nearest further sent granted endsAfter sequenceMet ackMet lifeOf withFin finsAfter openStage stageAfter sameSyn reply verdictUnanswered verdictByRanges verdictOn opened repeated answered carried reset passed finsOf stageOf firstFrom fromOpener fromAnswerer liveMatch vacant senderOf entryWith onEntry openingEntry unmatched onSegment sameFlow sentBy receivedBy highest some passes passedOnOurs afterCall told Rules.hasAnswer
 computed = (refl, refl)
 
 pub witness-legal : Legal (viewMachine (λ p. p)) empty pair witness
 witness-legal = legal?-sound empty pair witness (computed .0)
 
 pub witness-passes : NeverBlocked (viewMachine (λ p. p)) empty witness
-witness-passes = demand3-view (λ p. p) empty (fresh-sound (λ p. p) 64) pair (omega arith) witness witness-legal
+witness-passes = demand3-view (λ p. p) (λ p r e. e) empty (fresh-sound 64) pair (omega arith) witness witness-legal
 
 pub witness-shows : summaryOf (viewMachine (λ p. p)) empty witness ≡ comesTo
 witness-shows = computed .1

@@ -1,19 +1,19 @@
--- Demand 3 (document 01, "Honest ends"): "a single claim about the list of events and not one for each call". Lists are newest first. Its
--- sentences stand above what states them, in its order but for what needs another first.
+-- Demand 3 (document 01, "Honest ends"; resets by document 02, item 6): "a single claim about the list of events and not one for each call".
+-- Lists are newest first. Its sentences stand above what states them, in its order but for what needs another first.
 use Prim.Native.Nat.{ℕ, _+_, _≤_, _<_, max}
 use mathlib.Core.Path.{_≡_}
 use mathlib.Core.Logic.{_⊎_}
-use mathlib.Core.Bool.{Bool, true, false}
+use mathlib.Core.Bool.{Bool, true, false, _&&_}
 use mathlib.Core.List.{List, [], _∷_}
-use Rattle.choice.specs.Choice.{if_then_else_, _=ᵇ_}
-use Rattle.segment.specs.Flags.{SYN}
+use Rattle.choice.specs.Choice.{if_then_else_, _<ᵇ_, _=ᵇ_}
+use Rattle.segment.specs.Flags.{rst, SYN, RST}
 use Rattle.connection.specs.Ends.{opener}
 use Rattle.connection.specs.Stages.{lifeOf}
 use Rattle.rows.specs.Rows.{Ask, matchOf, nowhere}
 use Rattle.rows.specs.Connections.{connections}
 use Rattle.rows.specs.declared.Found.the-variants.{Nothing}
 use Rattle.history.specs.History.{LineSegment, onWire, stageOf}
-use Rattle.honest.specs.Machine.{Said, asks, apart, Machine, clockIn}
+use Rattle.honest.specs.Machine.{Said, asks, Machine, clockIn, asksHere, bringsReset}
 use Rattle.honest.specs.Rules.{Label, opening, arrival, other, IsArrivalOf, Event, send, call, delivery, Pair, sideOf, keyOf, Sent, Arrived, Honest}
 
 -- "An arrival is a call that brings an end's segment of this connection, its numbers modulo 2^32, with that end's side .. and a clock
@@ -45,7 +45,8 @@ module _ (M : Machine) where
     -- "The pass clock is the largest clock given at any pass so far, 0 before the first": on this part of the table, and before the first the
     -- header's, which is 0 in a fresh table
     pub passClock : ℕ
-    -- "the pass clock right after the latest pass on the opening's entry plus the life of the stage which that pass gave"
+    -- "the pass clock right after the latest pass on the opening's entry plus the life of the stage which that pass gave". One that frees, as a
+    -- reset does in stage 1, gives no stage and so no life
     pub until : ℕ
 
   unfoldable pub passes : Told → M .Call → Bool
@@ -67,10 +68,25 @@ module _ (M : Machine) where
     until = if passes t q then nextClock t q + lifeOf (stageOf (p ∷ t .history)) else t .until;
   }
 
-  unfoldable pub afterCall : Told → M .Call → Label → Told
-  afterCall t q (opening k p) = afterSegment t q (M .run (t .state) q .place) p
-  afterCall t q (arrival k p) = afterSegment t q (t .place) p
-  afterCall t q other = record {
+  -- live at a call, "told from the calls: the larger of this call's clock and the pass clock is under" `until`
+  abbrev pub Live : Told → M .Call → Type 0
+  Live t q = max (clockIn (M .reads q)) (t .passClock) < t .until
+
+  -- whether a call is "passed on the opening's entry", by its place: after the opening, as long as that entry is live, since once it has
+  -- expired its place may be another's; and not on another part of the table, whatever its place there
+  unfoldable pub passedOnOurs : Told → M .Call → Bool
+  passedOnOurs t q =
+      t .openingSeen
+      && ((max (clockIn (M .reads q)) (t .passClock) <ᵇ t .until)
+      && (asksHere (M .reads q) && (passes t q && (M .run (t .state) q .place =ᵇ t .place))))
+
+  -- what the history keeps of a reset that is no arrival: that it passed. Whoever sent it, its numbers count for nothing
+  abbrev pub someReset : LineSegment
+  someReset = record { from = opener; flags = RST; start = 0; length = 0; acked = 0; window = 0 }
+
+  -- after a call that leaves the opening's entry as it is
+  abbrev pub afterElsewhere : Told → M .Call → Told
+  afterElsewhere t q = record {
     state = M .run (t .state) q .next;
     openingSeen = t .openingSeen;
     place = t .place;
@@ -79,9 +95,12 @@ module _ (M : Machine) where
     until = t .until;
   }
 
-  -- live at a call, "told from the calls: the larger of this call's clock and the pass clock is under" `until`
-  abbrev pub Live : Told → M .Call → Type 0
-  Live t q = max (clockIn (M .reads q)) (t .passClock) < t .until
+  unfoldable pub afterCall : Told → M .Call → Label → Told
+  afterCall t q (opening k p) = afterSegment t q (M .run (t .state) q .place) p
+  afterCall t q (arrival k p) = afterSegment t q (t .place) p
+  afterCall t q other =
+      if passedOnOurs t q && bringsReset (M .reads q) then afterSegment t q (t .place) someReset
+      else afterElsewhere t q
 
   module _ (s₀ : M .State) where
     -- "A gate call, whatever its answer, is lent the table that the last one left."
@@ -96,9 +115,10 @@ module _ (M : Machine) where
 
   -- "Asked of the list:"
 
-  -- "Each end's arrivals are its sendings in order, .. some left out, some several times in a row.": of end i, none after its k-th has arrived
+  -- "Each end's arrivals are its sendings in order, .. some left out, some several times in a row.": of end i, none after its k-th has
+  -- arrived. Resets may come in any order
   abbrev pub InOrder : (i k : ℕ) → Events → Type 0
-  InOrder i k L = (j : ℕ) (g : LineSegment) → Arrived j g L → g .from ≡ i → j ≤ k
+  InOrder i k L = (j : ℕ) (g : LineSegment) → Arrived j g L → g .from ≡ i → rst (g .flags) ≡ 0 → j ≤ k
 
   module _ (s₀ : M .State) (P : Pair) where
     -- "The opening is an arrival of the opener's SYN that finds no live match and is answered 0." The list names one
@@ -109,16 +129,6 @@ module _ (M : Machine) where
       pub is-syn : p .flags ≡ SYN
       pub finds-none : matchOf connections (M .view (told s₀ L .state)) (bringing P p (arrives .clock)) ≡ Nothing
       pub answered-0 : passes (told s₀ L) q ≡ true
-
-  -- "a call that is no arrival may give anything, but isn't passed on the opening's entry": that it is, by its place
-  pub record PassedOnOurs (t : Told) (q : M .Call) : Type 0 where
-    pub after-opening : t .openingSeen ≡ true
-    -- once that entry has expired, its place may be another's
-    pub live : Live t q
-    -- a call on another part of the table isn't on it, whatever its place
-    pub not-apart : M .reads q ≡ apart → ⊥
-    pub answered-0 : passes t q ≡ true
-    pub place : M .run (t .state) q .place ≡ t .place
 
   module _ (s₀ : M .State) where
     -- "an arrival of it, the opening or a later one, was answered 0": of an end's k-th sending, p
@@ -133,14 +143,17 @@ module _ (M : Machine) where
     pub record Arrival (k : ℕ) (p : LineSegment) (q : M .Call) (L : Events) : Type 0 where
       pub after-opening : told s₀ L .openingSeen ≡ true
       pub arrives : Arrives P k p q L
-      pub in-order : InOrder (p .from) k L
+      pub in-order : rst (p .flags) ≡ 0 → InOrder (p .from) k L
       pub live : Live (told s₀ L) q
+      -- "Demand 3 now allows resets .. that themselves pass" (document 02, item 6)
+      pub reset-passes : rst (p .flags) ≡ 1 → passes (told s₀ L) q ≡ true
 
     abbrev pub FairCall : Label → M .Call → Events → Type 0
     FairCall (opening k p) q L = Opening s₀ P k p q L
     FairCall (arrival k p) q L = Arrival k p q L
-    -- "After the opening, a call that is no arrival .. isn't passed on the opening's entry."
-    FairCall other q L = PassedOnOurs (told s₀ L) q → ⊥
+    -- "After the opening, a call that is no arrival may give anything, but isn't passed on the opening's entry", unless it brings a reset,
+    -- whoever sent that
+    FairCall other q L = passedOnOurs (told s₀ L) q ≡ true → bringsReset (M .reads q) ≡ true
 
     abbrev pub Fair : Event (M .Call) → Events → Type 0
     -- "A sending keeps the rules above by what was delivered before it."
@@ -170,3 +183,31 @@ abbrev pub Demand3 : (M : Machine) → (M .State → Type 0) → Type 0
 Demand3 M Sound =
     (s₀ : M .State) → Sound s₀ → (P : Pair) → P .side ≤ 1 → (L : List (Event (M .Call))) →
     Legal M s₀ P L → NeverBlocked M s₀ L
+
+-- The same in document 02's own words, which ask for more: only the ends send resets, "from stage 2 on", and these arrive in order too
+
+module _ (M : Machine) (s₀ : M .State) (P : Pair) where
+  pub record ArrivalAsWritten (k : ℕ) (p : LineSegment) (q : M .Call) (L : Events M) : Type 0 where
+    pub after-opening : told M s₀ L .openingSeen ≡ true
+    pub arrives : Arrives M P k p q L
+    pub in-order : (j : ℕ) (g : LineSegment) → Arrived j g L → g .from ≡ p .from → j ≤ k
+    pub live : Live M (told M s₀ L) q
+    -- "that themselves pass"
+    pub reset-passes : rst (p .flags) ≡ 1 → passes M (told M s₀ L) q ≡ true
+
+  abbrev pub FairAsWritten : Event (M .Call) → Events M → Type 0
+  -- "resets sent from stage 2 on"
+  FairAsWritten (send p) L = Honest P p L × (rst (p .flags) ≡ 1 → 2 ≤ stageOf (told M s₀ L .history))
+  FairAsWritten (call q (opening k p)) L = Opening M s₀ P k p q L
+  FairAsWritten (call q (arrival k p)) L = ArrivalAsWritten k p q L
+  FairAsWritten (call q other) L = passedOnOurs M (told M s₀ L) q ≡ true → ⊥
+  FairAsWritten (delivery k p) L = WasPassed M s₀ k p L
+
+  abbrev pub LegalAsWritten : Events M → Type 0
+  LegalAsWritten [] = Unit {0}
+  LegalAsWritten (x ∷ L) = FairAsWritten x L × LegalAsWritten L
+
+abbrev pub Demand3AsWritten : (M : Machine) → (M .State → Type 0) → Type 0
+Demand3AsWritten M Sound =
+    (s₀ : M .State) → Sound s₀ → (P : Pair) → P .side ≤ 1 → (L : List (Event (M .Call))) →
+    LegalAsWritten M s₀ P L → NeverBlocked M s₀ L

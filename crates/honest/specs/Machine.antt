@@ -1,6 +1,8 @@
 -- A machine that answers calls, and what must be shown of it: that it keeps to rows 11 to 15 and 0 on a view of its table.
 use Prim.Native.Nat.{ℕ}
 use mathlib.Core.Path.{_≡_}
+use mathlib.Core.Bool.{Bool, true, false}
+use Rattle.segment.specs.Flags.{isReset}
 use Rattle.rows.specs.Rows.{Ask, View, filter, answerOf, placeBy, after}
 use Rattle.rows.specs.Connections.{connections}
 use Rattle.history.specs.History.{Placeable}
@@ -36,6 +38,17 @@ clockIn (refused n place) = 0
 clockIn (asks a) = a .clock
 clockIn apart = 0
 
+-- whether a call asks something of the table viewed; and whether it brings a reset there
+abbrev pub asksHere : Reading Ask → Bool
+asksHere (refused n place) = false
+asksHere (asks a) = true
+asksHere apart = false
+
+abbrev pub bringsReset : Reading Ask → Bool
+bringsReset (refused n place) = false
+bringsReset (asks a) = isReset (a .segment .flags)
+bringsReset apart = false
+
 module _ (M : Machine) (Sound : M .State → Type 0) where
   -- every state that calls lead to is sound; a table that isn't has answer 4
   pub record KeepsTo : Type 0 where
@@ -59,6 +72,8 @@ module _ (M : Machine) (Sound : M .State → Type 0) where
     pub blocked-keeps : (s : M .State) (q : M .Call) → (M .run s q .answer ≡ 0 → ⊥) → M .view (M .run s q .next) ≡ M .view s
     -- so does a call on another part of it, whatever its answer
     pub apart-keeps : (s : M .State) (q : M .Call) → Sound s → M .reads q ≡ apart → M .view (M .run s q .next) ≡ M .view s
+    -- two places have two numbers, so that a pass's place tells whose entry it is on
+    pub numbers-differ : (p r : ℕ) → M .number p ≡ M .number r → p ≡ r
     -- a sound state has a sound view, and every call leaves it sound
     pub sound-view : (s : M .State) → Sound s → SoundView (M .view s)
     pub sound-kept : (s : M .State) (q : M .Call) → Sound s → Sound (M .run s q .next)

@@ -4,7 +4,7 @@
 use Prim.Native.Nat.{ℕ, _-_, _^_}
 use mathlib.Core.Path.{_≡_}
 use mathlib.Core.List.{List, [], _∷_, _++_, reverse}
-use Rattle.segment.specs.Flags.{SYN, SYN+ACK, ACK, ACK+RST}
+use Rattle.segment.specs.Flags.{SYN, SYN+ACK, ACK, FIN+ACK, RST, ACK+RST}
 use Rattle.connection.specs.Ends.{opener, answerer}
 use Rattle.rows.specs.Rows.{View}
 use Rattle.rows.specs.Connections.{connections}
@@ -84,6 +84,10 @@ firstSynAck = answerer's SYN+ACK 0 1 1 1000 tt
 abbrev firstAck : Piece
 firstAck = opener's ACK 1 0 1 1000 tt
 
+-- the answerer's refusal of the SYN
+abbrev firstReset : Piece
+firstReset = answerer's ACK+RST 0 0 1 1000 tt
+
 abbrev synThrough : List Seen
 synThrough = sends firstSyn ∷ opensAt 0 firstSyn ∷ got 0 firstSyn ∷ []
 
@@ -156,6 +160,9 @@ ofSendings =
     -- "ends (FIN counted) at or below the highest a + max(w, 1) received": one octet above
     ∷ need handshake (sends (opener's ACK 1 1001 1 1000 tt)) (sends (opener's ACK 1 1000 1 1000 tt))
     (comes 2 0 (opener's ACK 1 1001 1 1000 tt) ∷ []) 14
+    -- "nothing in a reset counts as received": the same, though a reset with a larger window has been received
+    ∷ need (handshake ++ through 1 (answerer's ACK+RST 1 0 1 2000 tt)) (sends (opener's ACK 1 1001 1 1000 tt)) (sends (opener's ACK 1 1000 1 1000 tt))
+    (comes 2 0 (opener's ACK 1 1001 1 1000 tt) ∷ []) 14
     -- "acknowledges no less than the end of the other end's SYN"
     ∷ need synAckThrough (sends acksNothing) (sends firstAck) (comes 1 0 acksNothing ∷ []) 15
     -- "and no further than the highest end received": one octet further
@@ -189,12 +196,19 @@ ofCalls =
     -- "that finds no live match": it passes on an earlier connection of the same ports, by its ranges
     ∷ need (uncounted 0 firstSyn ∷ uncounted 0 (answerer's SYN+ACK 70000 1 1 1000 tt) ∷ sends firstSyn ∷ []) (opensAt 0 firstSyn) (opensAt 60000 firstSyn)
     (got 0 firstSyn ∷ sends firstSynAck ∷ comes 0 0 firstSynAck ∷ []) 14
-    -- "a call that is no arrival .. isn't passed on the opening's entry": a reset that no end has sent
-    ∷ need synAckThrough (uncounted 0 (opener's ACK+RST 1 0 1 1000 tt)) (uncounted 0 (opener's ACK+RST 900000 0 1 1000 tt)) (comes 0 0 firstSynAck ∷ []) 11
+    -- "a call that is no arrival .. isn't passed on the opening's entry": a FIN that no end has sent gives the connection an hour
+    ∷ need handshake (uncounted 0 (opener's FIN+ACK 1 1 1 1000 tt)) (uncounted 0 (opener's FIN+ACK 900000 1 1 1000 tt)) (comes 1 3600000 firstAck ∷ []) 11
+    -- "resets .. that themselves pass": one octet past the right edge
+    ∷ need (handshake ++ (sends (opener's ACK+RST 1 1001 1 1000 tt) ∷ [])) (comes 2 0 (opener's ACK+RST 1 1001 1 1000 tt)) (comes 1 0 firstAck) [] 14
     -- "A segment is delivered only after an arrival of it .. was answered 0": one that has not arrived
     ∷ need (synThrough ++ (sends firstSynAck ∷ [])) (got 0 firstSynAck) (got 0 firstSyn) (sends firstAck ∷ comes 1 0 firstAck ∷ []) 13
     -- "the connection is live": at the deadline
     ∷ need (synThrough ++ (sends firstSynAck ∷ [])) (comes 0 60000 firstSynAck) (comes 0 59999 firstSynAck) [] 11
+    -- in stage 6, at its deadline
+    ∷ need (handshake ++ (uncounted 0 (opener's RST 1 0 0 0 tt) ∷ [])) (comes 1 10000 firstAck) (comes 1 9999 firstAck) [] 11
+    -- once a reset in stage 1 has freed it ("resets sent from stage 2 on"), whoever sent that
+    ∷ need (synThrough ++ (sends firstSynAck ∷ uncounted 0 firstReset ∷ [])) (comes 0 0 firstSynAck) (got 0 firstSyn) [] 11
+    ∷ need (synThrough ++ (sends firstReset ∷ sends firstSynAck ∷ comes 0 0 firstReset ∷ [])) (comes 1 0 firstSynAck) (got 0 firstSyn) [] 11
     ∷ []
 
 -- The claim

@@ -1,16 +1,16 @@
--- Honest ends (document 01): events, what was sent, has arrived and was received, and what an end may send. In document 01's order, with its
--- sentences above what states them. Lists are newest first: in x ∷ L, x comes after all of L. "Places here are whole numbers": segments are
+-- Honest ends (document 01; resets by document 02, item 6): events, what was sent, has arrived and was received, and what an end may send. In
+-- document 01's order, with its sentences above what states them. Lists are newest first: in x ∷ L, x comes after all of L. "Places here are whole numbers": segments are
 -- those of `history`, with places on the unwrapped line.
 use Prim.Native.Nat.{ℕ, _+_, _<_, _≤_, max}
 use mathlib.Core.Path.{_≡_}
 use mathlib.Core.Logic.{_⊎_}
-use mathlib.Core.Bool.{Bool, true, false, _||_}
+use mathlib.Core.Bool.{Bool, true, false, _&&_, _||_, not}
 use mathlib.Core.List.{List, [], _∷_}
 use lib.ListN.{length}
 use Rattle.choice.specs.Choice.{if_then_else_, _=ᵇ_}
 use Rattle.address.specs.Flows.{reversed}
 use Rattle.address.specs.declared.Flow.{Flow}
-use Rattle.segment.specs.Flags.{syn, rst, ack, SYN, SYN+ACK}
+use Rattle.segment.specs.Flags.{syn, rst, isReset, ack, SYN, SYN+ACK}
 use Rattle.connection.specs.Ends.{opener, answerer, otherEnd}
 use Rattle.rows.specs.Rows.{otherSide}
 use Rattle.history.specs.History.{LineSegment, Formed}
@@ -81,14 +81,17 @@ module _ {Call : Type 0} where
   receivedBy i (call q l ∷ L) = receivedBy i L
   receivedBy i (delivery k p ∷ L) = if p .from =ᵇ i then receivedBy i L else p ∷ receivedBy i L
 
+-- "nothing in a reset counts as received" (document 02, item 6), and among an end's sendings its acknowledgement doesn't count either: both
+-- of the following leave resets out
+
 -- the highest of a number over segments, 0 over none: an end that may send a later segment has received one (`after-answer`)
 unfoldable pub highest : (LineSegment → ℕ) → List LineSegment → ℕ
 highest f [] = 0
-highest f (p ∷ l) = max (f p) (highest f l)
+highest f (p ∷ l) = if isReset (p .flags) then highest f l else max (f p) (highest f l)
 
 unfoldable pub some : (LineSegment → Bool) → List LineSegment → Bool
 some test [] = false
-some test (p ∷ l) = test p || some test l
+some test (p ∷ l) = (not (isReset (p .flags)) && test p) || some test l
 
 -- acknowledgement, right edge a + max(w, 1), and end (FIN counted) of a segment; one without ACK has neither of the first two
 abbrev pub ackOf : LineSegment → ℕ
@@ -141,13 +144,19 @@ module _ (P : Pair) {Call : Type 0} (p : LineSegment) (L : List (Event Call)) wh
     pub acks-received : p .acked ≤ highest endOf (receivedBy (p .from) L)
     -- "An end's acknowledgement numbers never fall in sending order."
     pub acks-rise : highest ackOf (sentBy (p .from) L) ≤ p .acked
-    -- demand 3: no reset is sent
+    -- a reset is none of these
     pub no-reset : rst (p .flags) ≡ 0
+
+  -- "Honest-end rules don't bind a reset's numbers" (document 02, item 6). When one may pass is asked of the calls that bring it
+  pub record AnyReset : Type 0 where
+    pub by-either : p .from < 2
+    pub is-reset : rst (p .flags) ≡ 1
 
   pub data Allowed : Type 0 where
     openers-syn : OpenersSyn → Allowed
     answerers-syn-ack : AnswerersSynAck → Allowed
     later : LaterSegment → Allowed
+    any-reset : AnyReset → Allowed
 
   -- "Each packet is well formed by answers 5 to 10", and "Honest ends send right checksums" (document 02, item 5): of the segment, a 16-bit
   -- window and no payload with SYN; the rest is its packet's, which has to be read as this segment (`Arrives`)

@@ -1,7 +1,8 @@
 -- A legal list, so that demand 3 says something: one connection, from the opening to both FINs and its end. An expired entry of the
 -- same ports stands beside it; in each stage an arrival comes at the last millisecond of the life; once it has expired, another connection
--- takes its place. Its numbers cross 2^32 both ways, with zero windows and shrunk ones, first segments of different windows, losses before
--- the filter and after it, repeats, resends, deliveries out of order, a clock set back, and other traffic, blocked and passed.
+-- takes its place. In each stage from 2 on a reset passes, an end's or one that no end has sent, and is lost past the filter. Its numbers
+-- cross 2^32 both ways, with zero windows and shrunk ones, first segments of different windows, losses before the filter and after it,
+-- repeats, resends, deliveries out of order, a clock set back, and other traffic, blocked and passed.
 use Prim.Native.Nat.{ℕ, zero, suc, _+_, _-_, _^_, _≤_}
 use mathlib.Core.Path.{_≡_, refl}
 use mathlib.Core.Bool.{Bool, true, false, not, _&&_, _||_}
@@ -16,7 +17,7 @@ use Rattle.choice.proofs.Tests.{&&-true, not-||-true}
 use Rattle.serial.proofs.Ring.{wrap-small}
 use Rattle.address.specs.Flows.{dotted, endpoint, between}
 use Rattle.address.specs.declared.Flow.{Flow}
-use Rattle.segment.specs.Flags.{syn, SYN, SYN+ACK, ACK, FIN+ACK}
+use Rattle.segment.specs.Flags.{syn, SYN, SYN+ACK, ACK, FIN+ACK, RST, RST+FIN, ACK+RST}
 use Rattle.connection.specs.Ends.{opener, answerer}
 use Rattle.rows.specs.Rows.{nowhere}
 use Rattle.rows.specs.Examples.{outward}
@@ -84,19 +85,21 @@ openerSends =
     ∷ opener's ACK 1 1 1 100 tt
     -- 4: up to the right edge of its 1, over 2^32; a shrunk window
     ∷ opener's ACK 2 9 1 50 tt
-    -- 5: a zero window from here on; acknowledges half of what was received
+    -- 5: a reset; its octets, its window and its acknowledgement, which is further than the next one, count for nothing
+    ∷ opener's ACK+RST 11 100 101 65535 tt
+    -- 6: a zero window from here on; acknowledges half of what was received
     ∷ opener's ACK 11 2000 51 0 tt
-    -- 6: lost before the filter
+    -- 7: lost before the filter
     ∷ opener's ACK 2011 500 101 0 tt
-    -- 7: again, after a shrunk window
+    -- 8: again, after a shrunk window
     ∷ opener's ACK 11 1000 101 0 tt
-    -- 8: again, below an acknowledgement that passed and was not delivered
+    -- 9: again, below an acknowledgement that passed and was not delivered
     ∷ opener's ACK 11 600 101 0 tt
-    -- 9: 6 again, up to the right edge; it passes and is never delivered
+    -- 10: 7 again, up to the right edge; it passes and is never delivered
     ∷ opener's ACK 2011 500 101 0 tt
-    -- 10: and again
+    -- 11: and again
     ∷ opener's ACK 2011 500 101 0 tt
-    -- 11: one octet into a zero window
+    -- 12: one octet into a zero window
     ∷ opener's ACK 2511 1 101 0 tt
     ∷ opener's FIN+ACK 2512 1 102 0 tt
     ∷ []
@@ -185,7 +188,9 @@ story =
     ∷ sends (a 0)
     ∷ arrives a 0 119999
     ∷ arrives a 0 179998
-    -- it has not been delivered, so the SYN again; then the opener's ACK, with one octet
+    -- a reset that no end has sent passes in stage 2
+    ∷ uncounted 179999 (opener's RST 1 0 0 0 tt)
+    -- the answer has not been delivered, so the SYN again: stage 3, though the opener has not acknowledged; then its ACK, with one octet
     ∷ sends (o 2)
     ∷ arrives o 2 180000
     ∷ delivers a 0
@@ -201,72 +206,86 @@ story =
     ∷ sends (a 2)
     ∷ arrives o 4 181000
     ∷ arrives a 2 181100
-    -- a segment of no connection, with the largest clock, and one that is out of range: both are blocked
+    -- a segment of no connection, with the largest clock, and two that are out of range, one of them a reset: all are blocked
     ∷ strays (2 ^ 48 - 1) 9 9000 (opener's ACK 1 0 1 1000 tt)
     ∷ uncounted 181200 (opener's ACK 900000 10 1 1000 tt)
+    ∷ uncounted 181200 (opener's RST 900000 0 0 0 tt)
     ∷ delivers o 4
     ∷ delivers a 2
-    -- sent ahead, one of the two lost; the answerer sends again, with a shrunk window, and so does the opener
+    -- the opener resets, which passes twice in a row, in stages 3 and 6, and is lost past the filter both times
     ∷ sends (o 5)
+    ∷ arrives o 5 181300
+    ∷ arrives o 5 181400
+    -- so both go on. Sent ahead, one of the two lost; the answerer sends again, with a shrunk window, and so does the opener
     ∷ sends (o 6)
-    ∷ arrives o 5 182000
+    ∷ sends (o 7)
+    ∷ arrives o 6 182000
     ∷ sends (a 3)
     ∷ arrives a 3 182100
     ∷ delivers a 3
-    ∷ sends (o 7)
-    ∷ arrives o 7 182200
+    ∷ sends (o 8)
+    ∷ arrives o 8 182200
     -- out of order, and one of the two twice
-    ∷ delivers o 7
-    ∷ delivers o 5
-    ∷ delivers o 7
+    ∷ delivers o 8
+    ∷ delivers o 6
+    ∷ delivers o 8
     -- of two acknowledgements one is lost, one passes and is not delivered yet; the opener sends again from below it
     ∷ sends (a 4)
     ∷ sends (a 5)
     ∷ arrives a 5 183000
-    ∷ sends (o 8)
-    ∷ arrives o 8 183100
-    -- what was lost is sent again, ends exactly at the right edge, passes and is never delivered; so again
     ∷ sends (o 9)
-    ∷ arrives o 9 184000
+    ∷ arrives o 9 183100
+    -- what was lost is sent again, ends exactly at the right edge, passes and is never delivered; so again
     ∷ sends (o 10)
-    ∷ arrives o 10 184100
-    ∷ delivers o 10
-    -- the window closes there. Another connection opens meanwhile, at place 0, and the clock is set back
+    ∷ arrives o 10 184000
+    ∷ sends (o 11)
+    ∷ arrives o 11 184100
+    ∷ delivers o 11
+    -- a reset with FIN that no end has sent: it sets no FIN bit
+    ∷ uncounted 186000 (answerer's RST+FIN 101 1 0 65535 tt)
+    -- the window closes. Another connection opens meanwhile, at place 0, and the clock is set back: it is the last millisecond of stage 6, told from
+    -- the other's pass
     ∷ sends (a 6)
-    ∷ strays 190000 5 6000 (opener's SYN 7 1 0 1000 tt)
+    ∷ strays 195999 5 6000 (opener's SYN 7 1 0 1000 tt)
     ∷ arrives a 6 0
     -- out of order, and one of the two twice
     ∷ delivers a 6
     ∷ delivers a 5
     ∷ delivers a 5
-    -- a probe of one octet goes into the closed window, at the last millisecond of stage 3, told from the other's pass
-    ∷ sends (o 11)
-    ∷ arrives o 11 432189999
-    ∷ delivers o 11
-    -- both FINs, the opener's at the last millisecond of stage 4, and again at the last of stage 5
+    -- a probe of one octet goes into the closed window, at the last millisecond of stage 3
+    ∷ sends (o 12)
+    ∷ arrives o 12 432195998
+    ∷ delivers o 12
+    -- the answerer's FIN; after another reset with FIN, which sets no bit either, it comes again
     ∷ sends (a 7)
     ∷ arrives a 7 432200000
+    ∷ uncounted 432200100 (opener's RST+FIN 2512 1 0 0 tt)
+    ∷ arrives a 7 432205000
     ∷ delivers a 7
-    ∷ sends (o 12)
-    ∷ arrives o 12 435799999
-    ∷ arrives o 12 436039998
-    ∷ delivers o 12
+    -- the opener's, at the last millisecond of stage 4, and again at the last of stage 5
+    ∷ sends (o 13)
+    ∷ arrives o 13 435804999
+    ∷ arrives o 13 436044998
+    ∷ delivers o 13
+    -- a reset of both FINs' connection, and the last acknowledgement just before its 10,000 ms are over
+    ∷ uncounted 436044999 (answerer's RST 102 0 0 0 tt)
     ∷ sends (a 8)
-    ∷ arrives a 8 436040000
+    ∷ arrives a 8 436054998
     -- it expires, and as it does two others open, at place 0 and at place 1, which was its own; what passed last is delivered only now
-    ∷ strays 436280000 6 7000 (opener's SYN 0 1 0 1000 tt)
-    ∷ strays 436280000 7 7000 (opener's SYN 0 1 0 1000 tt)
+    ∷ strays 436294998 6 7000 (opener's SYN 0 1 0 1000 tt)
+    ∷ strays 436294998 7 7000 (opener's SYN 0 1 0 1000 tt)
     ∷ delivers a 8
     ∷ []
 
 abbrev pub witness : List Seen
 witness = reverse story
 
--- what it comes to. Of the calls that are no arrivals the seven SYNs pass, the last of them at the place that was the connection's, and the
--- other two are blocked; the opening has place 1, and both FINs have passed
+-- what it comes to. Of the calls that are no arrivals the seven SYNs pass, the last of them at the place that was the connection's, and four
+-- resets, all at that place; the other three are blocked. The opening has place 1, and both FINs have passed
 abbrev pub comesTo : Summary
 comesTo = record {
-  others = (0, 0) ∷ (0, 1) ∷ (0, 2) ∷ (0, 0) ∷ (11, nowhere) ∷ (14, nowhere) ∷ (0, 0) ∷ (0, 0) ∷ (0, 1) ∷ [];
+  others =
+      (0, 0) ∷ (0, 1) ∷ (0, 2) ∷ (0, 0) ∷ (0, 1) ∷ (11, nowhere) ∷ (14, nowhere) ∷ (14, nowhere) ∷ (0, 1) ∷ (0, 0) ∷ (0, 1) ∷ (0, 1) ∷ (0, 0) ∷ (0, 1) ∷ [];
   place = 1;
   stage = 5;
 }

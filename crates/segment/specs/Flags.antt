@@ -15,7 +15,7 @@ rst f = f / 4 % 2
 abbrev pub ack : ℕ → ℕ
 ack f = f / 16 % 2
 
--- a reset frees the entry that it passes on
+-- RST is set: a reset
 abbrev pub isReset : ℕ → Bool
 isReset f = rst f =ᵇ 1
 
@@ -36,6 +36,12 @@ ACK = 16
 
 abbrev pub FIN+ACK : ℕ
 FIN+ACK = 17
+
+abbrev pub RST : ℕ
+RST = 4
+
+abbrev pub RST+FIN : ℕ
+RST+FIN = 5
 
 -- without FIN
 abbrev pub ACK+RST : ℕ
