@@ -9,6 +9,7 @@ use Rattle.packet.specs.Reader.{ReaderOf}
 use Rattle.packet.specs.declared.PacketRead.{PacketRead}
 use Rattle.packet.proofs.Readable.{ipv4-reader}
 use Rattle.honest.proofs.Demand3.{demand3}
+use Rattle.honest.proofs.AsWritten.{demand3-as-written}
 use Rattle.honest.proofs.Demand2Machine.{stays-sound, demand2-of}
 use Rattle.demands.specs.Bytes.{SoundBytes, bytesMachine}
 use Rattle.demands.specs.Encoded.{tableBytes}
@@ -42,6 +43,7 @@ demands-of-every-version v read reader = record {
   demand2 = demand2-on-bytes v read reader;
   demand3 = demand3-on-bytes v read reader;
   demand3-from-sound = demand3-from-sound v read reader;
+  demand3-as-written = demand3-as-written (bytesMachine v read) (SoundBytes v) (bytes-keep v read reader);
 }
 
 pub demands-of-ipv4 : DemandsOfIPv4

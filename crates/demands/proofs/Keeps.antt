@@ -117,6 +117,7 @@ module _ (v : Version) (read : List ℕ → PacketRead) (reader : ReaderOf v rea
     well-formed = asks-placeable;
     blocked-keeps = λ t q blocked. ap (tableOf v) (blocked-keeps v t (called v read t q) blocked);
     apart-keeps = λ t q s is. absurd (never-apart v read reader q is);
+    numbers-differ = λ p r e. e;
     sound-view = sound-view v;
     sound-kept = sound-kept;
   }

@@ -15,7 +15,7 @@ use Rattle.entry.specs.Layout.{entrySize, placeAt}
 use Rattle.table.specs.Table.{headerZerosAt, versionByteAt, versionByte}
 use Rattle.filter.specs.Call.{Outcome, placesIn, outcomeOf, replyOf, tableAfter}
 use Rattle.honest.specs.Rules.{Event, Pair}
-use Rattle.honest.specs.Honest.{Legal, NeverBlocked, Demand3}
+use Rattle.honest.specs.Honest.{Legal, NeverBlocked, Demand3, Demand3AsWritten}
 use Rattle.honest.specs.Histories.{histories, inNumbers}
 use Rattle.honest.specs.Demand2.{viewAfter as historiesAfter, asked, stateAfter, MachineFollows}
 use Rattle.demands.specs.Bytes.{BytesCall, SoundBytes, bytesMachine}
@@ -68,6 +68,10 @@ module _ (v : Version) where
     abbrev pub Demand3FromSound : Type 0
     Demand3FromSound = Demand3 (bytesMachine v read) (SoundBytes v)
 
+    -- and with resets as document 02, item 6, words them
+    abbrev pub Demand3AsWrittenFromSound : Type 0
+    Demand3AsWrittenFromSound = Demand3AsWritten (bytesMachine v read) (SoundBytes v)
+
 -- a fresh IPv4 table is all zeros, as document 01 has it
 abbrev pub FreshIsZeros : Type 0
 FreshIsZeros = (n : ℕ) → freshBytes V4 n ≡ replicate (placeAt V4 n) 0
@@ -78,6 +82,7 @@ pub record Demands (v : Version) (read : List ℕ → PacketRead) : Type 0 where
   pub demand2 : Demand2OnBytes v read
   pub demand3 : Demand3OnBytes v read
   pub demand3-from-sound : Demand3FromSound v read
+  pub demand3-as-written : Demand3AsWrittenFromSound v read
 
 -- whatever the IP version, of a reader that gives what that version's packets have
 abbrev pub DemandsOfEveryVersion : Type 0

@@ -26,16 +26,16 @@ spoilt from n v q = record {
 abbrev pub wrongHeaderSum : BytesCall
 wrongHeaderSum = spoilt 8 1 63 (bytesCall (brings 180900 (o 4) .0))
 
--- its sending 5 with more-fragments set and a time to live of 32, so that the sum is right
+-- its sending 6 with more-fragments set and a time to live of 32, so that the sum is right
 abbrev pub fragment : BytesCall
-fragment = spoilt 6 3 0x200020 (bytesCall (brings 181900 (o 5) .0))
+fragment = spoilt 6 3 0x200020 (bytesCall (brings 181900 (o 6) .0))
 
 -- the answerer's sending 2 with a window of 65,535 for 2,510: TCP's sum is wrong. Passed, it would let the opener send up to an edge that the
 -- answerer has not granted
 abbrev pub wrongWindow : BytesCall
 wrongWindow = spoilt 34 2 0xffff (bytesCall (brings 181050 (a 2) .0))
 
--- each right before the arrival of the packet that it was made from: 40 of the witness's events come after the fragment, 47 after the wrong window, 48
+-- each right before the arrival of the packet that it was made from: 44 of the witness's events come after the fragment, 55 after the wrong window, 56
 -- after the wrong header sum
 abbrev pub bytesWitness : List (Event BytesCall)
-bytesWitness = withOther 40 fragment (withOther 47 wrongWindow (withOther 48 wrongHeaderSum madeWitness))
+bytesWitness = withOther 44 fragment (withOther 55 wrongWindow (withOther 56 wrongHeaderSum madeWitness))
