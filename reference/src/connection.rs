@@ -1,6 +1,6 @@
 //! One connection of the table and what a segment that matches it changes
-//! (document 01, "The table", "Ranges" and "Stages"). Addresses, ports and the
-//! search for the match are not part of it.
+//! (document 01, "The table", "Ranges" and "Stages", and document 02, item 6).
+//! Addresses, ports and the search for the match are not part of it.
 
 use crate::packet::{ACK, FIN, RST, SYN};
 
@@ -18,6 +18,9 @@ pub const ANSWERER: usize = 1;
 
 /// "FIN bits (1; bit 0 opener, bit 1 answerer)"
 const BOTH_FINS: u8 = 3;
+
+/// "From stage 2 on, a passed reset now gives stage 6" (document 02, item 6).
+pub const RESET_STAGE: u8 = 6;
 
 /// "(T.end − a) mod 2^32 ≤ 66,000"
 const OLDEST_ACKNOWLEDGEMENT: u32 = 66_000;
@@ -167,13 +170,15 @@ impl Connection {
     /// "Sound: [...] every entry either free or with stage 1 to 5, side 0 or 1,
     /// [...] FIN bits 0 in stages 1 to 3, 1 or 2 in stage 4, 3 in stage 5;
     /// deadline at most header clock plus 432,000,000; [...] in stage 1 the
-    /// opener's edge equals its end and the answerer has 0, 0, 1."
+    /// opener's edge equals its end and the answerer has 0, 0, 1." Document 02,
+    /// item 6: "Sound tables may hold stage 6 with FIN bits 0 to 3."
     #[inline]
     pub fn is_sound(&self, header_clock: u64) -> bool {
         let fins_fit = match self.stage {
             1..=3 => self.fins == 0,
             4 => self.fins == 1 || self.fins == 2,
             5 => self.fins == BOTH_FINS,
+            RESET_STAGE => self.fins <= BOTH_FINS,
             _ => return *self == Connection::default(),
         };
         let [opener, answerer] = self.ends;
@@ -199,12 +204,11 @@ impl Connection {
             self.check_ranges(sender, segment)?;
             self.in_later_stage(sender, segment)
         };
-        // "A passed RST, in any stage, frees the entry (64 zeros)."
-        if segment.has(RST) {
-            return Ok(Connection::default());
-        }
         // "After each pass that doesn't free the entry, deadline = clock used
         // + life of the new stage."
+        if passed == Connection::default() {
+            return Ok(passed);
+        }
         Ok(Connection {
             deadline: clock_used + life(passed.stage),
             ..passed
@@ -212,7 +216,8 @@ impl Connection {
     }
 
     /// "Stage 1 lets through the same SYN again [...] and from the answerer,
-    /// with a = opener end, either SYN+ACK or ACK+RST without FIN."
+    /// with a = opener end, either SYN+ACK or ACK+RST without FIN." The last
+    /// "frees the entry (64 zeros)"; document 02, item 6: "Stage 1 still frees."
     fn in_stage_1(&self, sender: usize, segment: &Segment) -> Result<Connection, u32> {
         if sender == OPENER && self.is_same_syn(segment) {
             return Ok(self.with_same_syn(segment));
@@ -222,7 +227,7 @@ impl Connection {
                 return Ok(self.answered(segment));
             }
             if segment.has(RST) && segment.lacks(FIN) {
-                return Ok(*self);
+                return Ok(Connection::default());
             }
         }
         Err(NOT_ALLOWED_IN_STAGE_1)
@@ -276,9 +281,26 @@ impl Connection {
         }
     }
 
-    /// What a pass from stage 2 on writes, without the deadline. "a passed FIN
-    /// sets its sender's bit."
+    /// What a pass from stage 2 on writes, without the deadline.
     fn in_later_stage(&self, sender: usize, segment: &Segment) -> Connection {
+        if segment.has(RST) {
+            self.reset()
+        } else {
+            self.with_segment(sender, segment)
+        }
+    }
+
+    /// "a passed reset now gives stage 6, life 10,000 ms, and changes none of
+    /// the six numbers and no FIN bit" (document 02, item 6).
+    fn reset(&self) -> Connection {
+        Connection {
+            stage: RESET_STAGE,
+            ..*self
+        }
+    }
+
+    /// A segment without RST. "a passed FIN sets its sender's bit."
+    fn with_segment(&self, sender: usize, segment: &Segment) -> Connection {
         let mut ends = self.ends;
         ends[sender] = ends[sender].sent(segment);
         ends[1 - sender] = ends[1 - sender].received(segment);
@@ -295,13 +317,15 @@ impl Connection {
     }
 
     /// "New stage: 5 with both bits, 4 with one, else 3 if it was 3 or the
-    /// opener sent ACK without SYN, else 2."
+    /// opener sent ACK without SYN, else 2." After a reset, document 02, item 6:
+    /// "The next passed segment without RST returns the entry to 5, 4 or 3 by
+    /// its FIN bits", so never to 2.
     fn new_stage(&self, sender: usize, segment: &Segment, fins: u8) -> u8 {
         let opener_acknowledged = sender == OPENER && segment.has(ACK) && segment.lacks(SYN);
         match fins {
             BOTH_FINS => 5,
             1 | 2 => 4,
-            _ if self.stage == 3 || opener_acknowledged => 3,
+            _ if matches!(self.stage, 3 | RESET_STAGE) || opener_acknowledged => 3,
             _ => 2,
         }
     }
@@ -322,13 +346,15 @@ fn acknowledgement_met(to: End, segment: &Segment) -> bool {
 }
 
 /// "Life of a stage, in ms: 1 and 2: 60,000; 3: 432,000,000; 4: 3,600,000; 5:
-/// 240,000." No other stage is given.
+/// 240,000." and "stage 6, life 10,000 ms" (document 02, item 6). No other stage
+/// is given.
 fn life(stage: u8) -> u64 {
     match stage {
         1 | 2 => 60_000,
         3 => 432_000_000,
         4 => 3_600_000,
         5 => 240_000,
+        RESET_STAGE => 10_000,
         _ => 0,
     }
 }
@@ -460,19 +486,130 @@ mod tests {
         assert!(!opened.is_live(60_000));
     }
 
+    /// Stages from 2 on with the FIN bits that they can have.
+    const LATER_STAGES: [(u8, u8); 9] = [
+        (2, 0),
+        (3, 0),
+        (4, 1),
+        (4, 2),
+        (5, 3),
+        (6, 0),
+        (6, 1),
+        (6, 2),
+        (6, 3),
+    ];
+
+    const RESETS: [u8; 4] = [RST, RST | FIN, RST | ACK, RST | ACK | FIN];
+
+    /// State K with another stage, FIN bits that go with it and the latest
+    /// deadline.
+    fn in_stage(stage: u8, fins: u8) -> Connection {
+        Connection {
+            stage,
+            fins,
+            deadline: 432_000_100,
+            ..state_k()
+        }
+    }
+
     #[test]
-    fn reset_frees_in_any_stage() {
+    fn a_reset_frees_in_stage_1_only() {
         let reset = segment(RST | ACK, 500, 0, 101);
         assert_eq!(example_opened().offer(ANSWERER, &reset, 1), Ok(FREED));
-        for (stage, fins) in [(2, 0), (3, 0), (4, 1), (4, 2), (5, 3)] {
-            let held = Connection {
-                stage,
-                fins,
-                ..state_k()
+        for flags in [RST, RST | FIN, RST | ACK | FIN] {
+            let octets = u32::from(flags & FIN);
+            let reset = segment(flags, 500, octets, 101);
+            assert_eq!(example_opened().offer(ANSWERER, &reset, 1), Err(13));
+        }
+        for (stage, fins) in LATER_STAGES {
+            let passed = in_stage(stage, fins).offer(ANSWERER, &reset, 200);
+            assert_eq!(passed.map(|connection| connection.stage), Ok(6));
+        }
+    }
+
+    /// The opener's data, window and acknowledgement, then the answerer's
+    /// window and acknowledgement, would each raise a number.
+    #[test]
+    fn a_reset_changes_only_stage_and_deadline() {
+        for (stage, fins) in LATER_STAGES {
+            let held = in_stage(stage, fins);
+            let expected = Connection {
+                stage: 6,
+                deadline: 10_200,
+                ..held
             };
-            assert_eq!(held.offer(ANSWERER, &reset, 200), Ok(FREED));
-            let outside = segment(RST, 502, 0, 101);
-            assert_eq!(held.offer(ANSWERER, &outside, 200), Err(14));
+            for flags in RESETS {
+                let by_opener = Segment {
+                    window: 65_535,
+                    ..segment(flags, 101, 2000, 501)
+                };
+                assert_eq!(held.offer(OPENER, &by_opener, 200), Ok(expected));
+                let octets = u32::from(flags & FIN);
+                let by_answerer = Segment {
+                    window: 65_535,
+                    ..segment(flags, 501 - octets, octets, 101)
+                };
+                assert_eq!(held.offer(ANSWERER, &by_answerer, 200), Ok(expected));
+            }
+        }
+    }
+
+    #[test]
+    fn resets_are_judged_by_14_and_15() {
+        for (stage, fins) in LATER_STAGES {
+            let held = in_stage(stage, fins);
+            let answer = |sender: usize, segment: Segment| {
+                held.offer(sender, &segment, 200).err().unwrap_or(0)
+            };
+            for flags in RESETS {
+                let without_ack = flags & ACK == 0;
+                assert_eq!(answer(OPENER, segment(flags, 101, 2000, 501)), 0);
+                assert_eq!(answer(OPENER, segment(flags, 102, 2000, 501)), 14);
+                assert_eq!(answer(OPENER, segment(flags, 4_294_965_396, 1, 501)), 14);
+                assert_eq!(answer(OPENER, segment(flags, 4_294_965_397, 1, 501)), 0);
+                let missed = if without_ack { 0 } else { 15 };
+                for acknowledgement in [502, 4_294_901_796, 2_147_484_149] {
+                    let reset = segment(flags, 101, 1, acknowledgement);
+                    assert_eq!(answer(OPENER, reset), missed);
+                }
+                assert_eq!(answer(OPENER, segment(flags, 101, 1, 4_294_901_797)), 0);
+                assert_eq!(answer(ANSWERER, segment(flags, 502, 1, 101)), 14);
+                assert_eq!(answer(ANSWERER, segment(flags, 500, 1, 102)), missed);
+            }
+        }
+    }
+
+    /// Every segment without RST, whatever it does elsewhere: in stage 6 it does
+    /// as much, and the stage goes by the FIN bits it leaves.
+    #[test]
+    fn the_next_segment_returns_by_the_fin_bits() {
+        let segments = [
+            (OPENER, segment(ACK, 101, 7, 501)),
+            (OPENER, segment(ACK | FIN, 101, 8, 501)),
+            (OPENER, segment(SYN, 100, 1, 0)),
+            (OPENER, segment(SYN | ACK, 100, 1, 501)),
+            (ANSWERER, segment(ACK, 501, 0, 101)),
+            (ANSWERER, segment(ACK | FIN, 500, 1, 101)),
+            (ANSWERER, segment(SYN, 500, 1, 0)),
+            (ANSWERER, segment(SYN | ACK, 500, 1, 101)),
+        ];
+        for (stage, fins) in LATER_STAGES {
+            for (sender, offered) in segments {
+                let held = in_stage(stage, fins);
+                let passed = |held: Connection| held.offer(sender, &offered, 300).expect("a pass");
+                let reset = held.offer(OPENER, &segment(RST, 101, 0, 0), 200);
+                let after = passed(reset.expect("in range"));
+                let fin = u8::from(offered.has(FIN)) << sender;
+                assert_eq!(after.fins, fins | fin);
+                let (stage, life) = [
+                    (3, 432_000_000),
+                    (4, 3_600_000),
+                    (4, 3_600_000),
+                    (5, 240_000),
+                ][usize::from(after.fins)];
+                assert_eq!((after.stage, after.deadline), (stage, 300 + life));
+                assert_eq!(after.ends, passed(held).ends);
+            }
         }
     }
 
@@ -524,7 +661,7 @@ mod tests {
         }
 
         fn connection(&mut self) -> Connection {
-            let (stage, fins) = [(2, 0), (3, 0), (4, 1), (4, 2), (5, 3)][self.below(5) as usize];
+            let (stage, fins) = LATER_STAGES[self.below(9) as usize];
             Connection {
                 stage,
                 side: self.below(2) as u8,
@@ -581,7 +718,9 @@ mod tests {
             assert_eq!(result != Err(14), met, "{held:?} {offered:?}");
             let Ok(passed) = result else { continue };
             assert!(passed.is_sound(0), "{held:?} {offered:?}");
-            if passed == FREED {
+            if offered.has(RST) {
+                assert_eq!((passed.stage, passed.deadline), (6, 10_000));
+                assert_eq!((passed.fins, passed.ends), (held.fins, held.ends));
                 continue;
             }
             let risen = |before: u32, after: u32| after.wrapping_sub(before) <= 65_535;

@@ -122,7 +122,7 @@ fn follow(
     let connection = entry
         .connection
         .offer(sender, &numbers(segment), clock_used)?;
-    // "A passed RST, in any stage, frees the entry (64 zeros)."
+    // A passed RST in stage 1 "frees the entry (64 zeros)", names and all.
     if connection == Connection::default() {
         return Ok(Entry::default());
     }
@@ -151,7 +151,7 @@ fn open(
 }
 
 /// The names that a connection opened by the segment has.
-fn names(segment: &packet::Segment) -> Names {
+pub fn names(segment: &packet::Segment) -> Names {
     Names {
         opener_address: segment.source,
         answerer_address: segment.destination,

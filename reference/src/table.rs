@@ -130,7 +130,7 @@ pub fn is_sound(table: &[u8]) -> bool {
             .all(|entry| entry_is_sound(entry, clock))
 }
 
-/// "every entry either free or with stage 1 to 5, [...] zero bytes zero, [...]"
+/// "every entry either free or with [...] zero bytes zero, [...]"
 #[inline]
 fn entry_is_sound(entry: &[u8], header_clock: u64) -> bool {
     if all_zero(entry) {
@@ -320,6 +320,88 @@ mod tests {
         let others = [&table[8..2 * ENTRY], &table[3 * ENTRY..]].concat();
         assert!(others.iter().all(|&byte| byte == 0));
         assert!(is_sound(&table));
+    }
+
+    /// Whether a table is sound that holds the entry above, changed.
+    fn is_sound_with(change: impl Fn(&mut [u8])) -> bool {
+        let mut table = table();
+        change(&mut table[2 * ENTRY..3 * ENTRY]);
+        is_sound(&table)
+    }
+
+    fn is_sound_in_stage(stage: u8, fins: u8) -> bool {
+        is_sound_with(|entry| {
+            entry[0] = stage;
+            entry[2] = fins;
+        })
+    }
+
+    /// "with stage 1 to 5, [...] FIN bits 0 in stages 1 to 3, 1 or 2 in stage 4,
+    /// 3 in stage 5", and document 02, item 6: "Sound tables may hold stage 6
+    /// with FIN bits 0 to 3." The records are those of a later stage than 1.
+    #[test]
+    fn every_stage_and_every_fin_bit() {
+        for stage in 0..=255 {
+            for fins in 0..=255 {
+                let fits = match stage {
+                    2 | 3 => fins == 0,
+                    4 => fins == 1 || fins == 2,
+                    5 => fins == 3,
+                    6 => fins <= 3,
+                    _ => false,
+                };
+                assert_eq!(is_sound_in_stage(stage, fins), fits, "{stage} {fins}");
+            }
+        }
+    }
+
+    /// Stage and FIN bits apart, stage 6 is sound where stages 2 to 5 are: each
+    /// byte with each value, and the bounds of each field.
+    #[test]
+    fn the_rest_of_stage_6_is_as_in_stages_2_to_5() {
+        let with = |(stage, fins): (u8, u8), at: usize, bytes: &[u8]| {
+            is_sound_with(|entry| {
+                entry[0] = stage;
+                entry[2] = fins;
+                entry[at..at + bytes.len()].copy_from_slice(bytes);
+            })
+        };
+        let earlier = [(2, 0), (3, 0), (4, 1), (4, 2), (5, 3)];
+        let compare = |at: usize, bytes: &[u8], expected: Option<bool>| {
+            let sound = expected.unwrap_or_else(|| with((3, 0), at, bytes));
+            for held in earlier.into_iter().chain((0..=3).map(|fins| (6, fins))) {
+                assert_eq!(with(held, at, bytes), sound, "{held:?} {at} {bytes:?}");
+            }
+        };
+        for at in [1].into_iter().chain(3..ENTRY) {
+            for byte in 0..=255 {
+                compare(at, &[byte], None);
+            }
+        }
+        // The deadline; the header's clock is 5051_5252.
+        let latest: u64 = 0x5051_5252 + 432_000_000;
+        for (deadline, sound) in [(0, true), (latest, true), (latest + 1, false)] {
+            compare(16, &deadline.to_be_bytes(), Some(sound));
+        }
+        // Each end's end, edge and win.
+        let records = [
+            ([9, 9, 1], true),
+            ([9, 9, 0], false),
+            ([9, 9, 65_535], true),
+            ([9, 9, 65_536], false),
+            ([9, 8, 1], false),
+            ([9, 65_544, 1], true),
+            ([9, 65_545, 1], false),
+            ([u32::MAX, 65_534, 1], true),
+            ([u32::MAX, 65_535, 1], false),
+            // What stage 1 asks of the answerer is allowed to either end.
+            ([0, 0, 1], true),
+        ];
+        for at in [24, 36] {
+            for (record, sound) in records {
+                compare(at, &record.map(u32::to_be_bytes).concat(), Some(sound));
+            }
+        }
     }
 
     #[test]

@@ -8,9 +8,11 @@ mod draft;
 mod honest;
 mod lines;
 mod random;
+mod resets;
 mod tables;
 mod tcp_sums;
 mod world;
 
 pub use calls::{calls, Call, Calls};
 pub use lines::{lines, Lines};
+pub use resets::{Made, ResetCounts};

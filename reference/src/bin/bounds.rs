@@ -1,10 +1,10 @@
 //! Test vectors for a connection: the ranges, what a pass writes, the stages
 //! and the deadlines.
 //!
-//! The expected results were worked out by hand from document 01 and stand in
-//! the tables as the lines that a run prints. The program checks that this
-//! library agrees with all of them, then prints the input script (argument
-//! `stdin`) or the expected output (argument `stdout`).
+//! The expected results were worked out by hand from document 01 and document
+//! 02, item 6, and stand in the tables as the lines that a run prints. The
+//! program checks that this library agrees with all of them, then prints the
+//! input script (argument `stdin`) or the expected output (argument `stdout`).
 //!
 //! The script, each line ended by a newline; fields are unsigned decimal
 //! numbers, separated by single spaces:
@@ -27,7 +27,7 @@ use reference::packet::{FIN, SYN};
 use std::io::{self, Write};
 use std::process::ExitCode;
 
-const TABLES: [&str; 8] = [
+const TABLES: [&str; 9] = [
     include_str!("bounds/example.txt"),
     include_str!("bounds/sequence.txt"),
     include_str!("bounds/acknowledgement.txt"),
@@ -36,6 +36,7 @@ const TABLES: [&str; 8] = [
     include_str!("bounds/flags.txt"),
     include_str!("bounds/stages.txt"),
     include_str!("bounds/deadlines.txt"),
+    include_str!("bounds/resets.txt"),
 ];
 
 /// "SYN with FIN or RST; none of SYN, ACK, RST" are refused by row 10.
@@ -284,7 +285,7 @@ fn main() -> ExitCode {
 #[cfg(test)]
 mod tests {
     use super::*;
-    use reference::packet::ACK;
+    use reference::packet::{ACK, RST};
     use std::collections::HashSet;
 
     #[test]
@@ -328,7 +329,7 @@ mod tests {
                 let passes = matches!((sender, flags), (0, 2) | (1, 18) | (1, 20));
                 assert_eq!(has(1, "0"), passes, "{sender} {flags}");
                 assert!(has(1, "13"), "{sender} {flags}");
-                for stage in 2..=5 {
+                for stage in 2..=6 {
                     assert!(has(stage, "0"), "{stage} {sender} {flags}");
                     assert!(has(stage, "14"), "{stage} {sender} {flags}");
                     assert_eq!(
@@ -336,6 +337,36 @@ mod tests {
                         flags & ACK != 0,
                         "{stage} {sender} {flags}"
                     );
+                }
+            }
+        }
+    }
+
+    /// From stage 2 on every reset passes with every value of the FIN bits, and
+    /// every other segment returns from stage 6 with each of them.
+    #[test]
+    fn every_reset_and_every_return() {
+        let mut passed = HashSet::new();
+        let mut run = Run::default();
+        for step in steps() {
+            let (stage, fins) = (run.held.stage, run.held.fins);
+            let printed = run.line(step.line);
+            if let Some(Command::Offer {
+                sender, segment, ..
+            }) = command(step.line)
+            {
+                if printed.is_some_and(|printed| printed.starts_with("0 ")) {
+                    passed.insert((stage, fins, sender, segment.flags));
+                }
+            }
+        }
+        let earlier = [(2, 0), (3, 0), (4, 1), (4, 2), (5, 3)];
+        for (stage, fins) in earlier.into_iter().chain((0..=3).map(|fins| (6, fins))) {
+            for sender in 0..=1 {
+                for flags in WELL_FORMED_FLAGS {
+                    let wanted = (stage, fins, sender, flags);
+                    let needed = stage == 6 || flags & RST != 0;
+                    assert!(!needed || passed.contains(&wanted), "{wanted:?}");
                 }
             }
         }

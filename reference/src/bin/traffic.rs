@@ -3,14 +3,15 @@
 //! - `traffic lines SEED COUNT`: the lines.
 //! - `traffic expect SEED COUNT`: the program's output, by this library.
 //! - `traffic histogram SEED COUNT`: how often each answer comes, how often a
-//!   pass leaves its entry in each stage (0: freed), and how many connections
-//!   open and come to stage 5.
+//!   pass leaves its entry in each stage (0: freed), how many connections open
+//!   and come to stage 5, and what resets meet and what comes after them.
 //!
 //! With an odd seed the last line has no newline.
 
 use reference::table;
+use reference::trace::{read_line, LONGEST_PACKET};
 use reference::trace_run::TraceRun;
-use reference::traffic::lines;
+use reference::traffic::{lines, Made, ResetCounts};
 use std::io::{self, BufWriter, Write};
 use std::process::ExitCode;
 
@@ -38,13 +39,26 @@ fn print_expected(seed: u64, count: usize, output: &mut impl Write) -> io::Resul
 fn print_histogram(seed: u64, count: usize, output: &mut impl Write) -> io::Result<()> {
     let mut run = TraceRun::default();
     let mut answers = [0u64; 25];
-    let mut stages = [0u64; 6];
+    let mut stages = [0u64; 7];
     let mut closed = 0;
     let mut opened = 0;
+    let mut resets = ResetCounts::default();
+    let mut packet = [0; LONGEST_PACKET];
     for line in lines(seed, count) {
         let before = run.table().to_vec();
         let given = run.line(&line);
         answers[given.answer as usize] += 1;
+        let read = read_line(&line, &mut packet);
+        if read.answer == 0 {
+            resets.count(&Made {
+                before: &before,
+                side: read.side,
+                clock: read.clock,
+                packet: &packet[..read.length],
+                answer: given.answer,
+                after: run.table(),
+            });
+        }
         let Some(place) = given.number.filter(|_| given.answer == 0) else {
             continue;
         };
@@ -65,7 +79,43 @@ fn print_histogram(seed: u64, count: usize, output: &mut impl Write) -> io::Resu
         writeln!(output, "passed to stage {stage}: {count}")?;
     }
     writeln!(output, "connections opened: {opened}")?;
-    writeln!(output, "connections come to stage 5: {closed}")
+    writeln!(output, "connections come to stage 5: {closed}")?;
+    print_resets(&resets, output)
+}
+
+fn print_resets(resets: &ResetCounts, output: &mut impl Write) -> io::Result<()> {
+    for stage in 1..=6 {
+        let (passed, refused) = (resets.passed[stage], resets.refused[stage]);
+        writeln!(
+            output,
+            "resets in stage {stage}: {passed} passed, {refused} refused"
+        )?;
+    }
+    let [without, with] = resets.senders;
+    writeln!(
+        output,
+        "passed from stage 2 on without ACK, by end: {without:?}"
+    )?;
+    writeln!(output, "passed from stage 2 on with ACK, by end: {with:?}")?;
+    for stage in 3..=5 {
+        let returned = resets.returned[stage];
+        writeln!(output, "returned from stage 6 to {stage}: {returned}")?;
+    }
+    let counts = [
+        ("returned, stage 2 before the reset", resets.returned_from_2),
+        ("in the last live ms of stage 6", resets.last_live),
+        ("in the first ms after it", resets.just_expired),
+        ("SYN in stage 6 refused", resets.syn_refused),
+        ("SYN in stage 6 passed", resets.syn_passed),
+        (
+            "openings by the names of an expired stage 6",
+            resets.reopened,
+        ),
+    ];
+    for (name, count) in counts {
+        writeln!(output, "{name}: {count}")?;
+    }
+    Ok(())
 }
 
 fn main() -> ExitCode {

@@ -161,7 +161,7 @@ fn in_stage(stage: u8) -> Connection {
     Connection {
         stage,
         side: 0,
-        fins: [0, 0, 0, 0, 1, 3][usize::from(stage)],
+        fins: [0, 0, 0, 0, 1, 3, 2][usize::from(stage)],
         deadline: 1000,
         ends: [end(100, 100, 1), answerer],
     }
@@ -389,11 +389,11 @@ fn every_clause_of_sound() {
     let check = |connection: Connection, expected: u32| {
         assert_eq!(answer(&mut held(connection)), expected, "{connection:?}");
     };
-    for stage in 1..=5 {
+    for stage in 1..=6 {
         check(in_stage(stage), 11);
     }
     // Stage and side.
-    for stage in [0, 6, 255] {
+    for stage in [0, 7, 255] {
         let connection = Connection {
             stage,
             ..in_stage(3)
@@ -408,11 +408,12 @@ fn every_clause_of_sound() {
         check(connection, expected);
     }
     // FIN bits.
-    for stage in 1..=5 {
+    for stage in 1..=6 {
         for fins in 0..=255 {
             let fits = match stage {
                 4 => fins == 1 || fins == 2,
                 5 => fins == 3,
+                6 => fins <= 3,
                 _ => fins == 0,
             };
             let connection = Connection {
@@ -517,7 +518,7 @@ fn an_opening_takes_an_expired_place_whole() {
 
 #[test]
 fn every_stage_expires_at_its_millisecond() {
-    for stage in 2..=5 {
+    for stage in 2..=6 {
         for (clock, expected) in [
             (999, (0, 1)),
             (1000, (11, NO_PLACE)),
@@ -529,7 +530,13 @@ fn every_stage_expires_at_its_millisecond() {
         }
     }
     // A deadline is reckoned from the clock used and the new stage.
-    let lives = [(1, 60_000), (2, 432_000_000), (4, 3_600_000), (5, 240_000)];
+    let lives = [
+        (1, 60_000),
+        (2, 432_000_000),
+        (4, 3_600_000),
+        (5, 240_000),
+        (6, 3_600_000),
+    ];
     for (stage, life) in lives {
         let packet = if stage == 1 {
             draft(SYN, 99, 0, 0).opener_packet()
@@ -563,22 +570,64 @@ fn a_clock_set_back_does_not_age() {
 }
 
 #[test]
-fn a_reset_frees_the_entry() {
+fn a_reset_in_stage_1_frees_the_entry() {
+    let reset = draft(RST | ACK, 0, 0, 100).answerer_packet();
+    let mut table = held(in_stage(1));
+    assert_eq!(call(1, 999, &mut table, &reset), (0, 1));
+    let mut expected = fresh(2);
+    table::store_clock(&mut expected, 999);
+    assert_eq!(table, expected);
+    assert_eq!(call(1, 999, &mut table, &reset), (11, NO_PLACE));
+    // A place is free at once.
+    let syn = draft(SYN, 7, 0, 0).opener_packet();
+    assert_eq!(call(0, 999, &mut table, &syn), (0, 0));
+}
+
+/// "A reset may be lost too": stage and deadline apart, no byte of the entry
+/// changes, and what the ends send next still passes.
+#[test]
+fn a_reset_from_stage_2_on_keeps_the_entry() {
     let stages = [
-        (1, draft(RST | ACK, 0, 0, 100).answerer_packet(), 1),
-        (2, draft(RST, 100, 0, 0).opener_packet(), 0),
+        (2, draft(RST, 100, 0, 7).opener_packet(), 0),
         (3, draft(RST | ACK, 500, 0, 100).answerer_packet(), 1),
         (4, draft(RST | ACK, 100, 0, 500).opener_packet(), 0),
-        (5, draft(RST, 499, 1, 0).answerer_packet(), 1),
+        (5, draft(RST, 499, 1, 7).answerer_packet(), 1),
+        (6, draft(RST | ACK | FIN, 99, 0, 500).opener_packet(), 0),
     ];
     for (stage, packet, side) in stages {
         let mut table = held(in_stage(stage));
+        let mut expected = table.clone();
         assert_eq!(call(side, 999, &mut table, &packet), (0, 1));
-        let mut expected = fresh(2);
         table::store_clock(&mut expected, 999);
+        expected[128] = 6;
+        // 999 + 10,000 = 10,999 is 2af7.
+        expected[128 + 16..128 + 24].copy_from_slice(&[0, 0, 0, 0, 0, 0, 0x2a, 0xf7]);
         assert_eq!(table, expected);
-        assert_eq!(call(side, 999, &mut table, &packet), (11, NO_PLACE));
+        // The same again, by a clock set back: the deadline stays.
+        assert_eq!(call(side, 0, &mut table, &packet), (0, 1));
+        assert_eq!(table, expected);
+        let data = draft(ACK, 100, 0, 500).opener_packet();
+        assert_eq!(call(0, 10_999, &mut table, &data), (11, NO_PLACE));
+        assert_eq!(call(0, 10_998, &mut table, &data), (0, 1));
+        let returned = table::entry(&table, 1).connection;
+        let expected = [0, 0, 3, 3, 4, 5, 4][stage as usize];
+        assert_eq!(returned.stage, expected);
     }
+}
+
+/// A SYN of the same ports finds the entry until it expires: "11 no live
+/// connection matches", so 14 before.
+#[test]
+fn a_syn_opens_after_a_reset_once_the_entry_expired() {
+    let mut table = held(in_stage(3));
+    let reset = draft(RST, 100, 0, 0).opener_packet();
+    assert_eq!(call(0, 500, &mut table, &reset), (0, 1));
+    let syn = draft(SYN, 90_000, 0, 0).opener_packet();
+    assert_eq!(call(0, 10_499, &mut table, &syn), (14, NO_PLACE));
+    assert_eq!(call(0, 10_500, &mut table, &syn), (0, 0));
+    assert_eq!(table::entry(&table, 0).connection.stage, 1);
+    // The expired entry is as the reset left it.
+    assert_eq!(table::entry(&table, 1).connection.stage, 6);
 }
 
 #[test]

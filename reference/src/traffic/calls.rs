@@ -146,6 +146,31 @@ mod tests {
         assert!(empty >= 4, "{empty}");
     }
 
+    /// Stage 6 with every value of its FIN bits where the table is sound, and
+    /// what is nearest to it where that alone makes the table unsound.
+    #[test]
+    fn tables_hold_stage_6() {
+        let mut sound = [0; 4];
+        let mut unsound = [0; 2];
+        for call in calls(1, 20_000) {
+            if !table::length_allowed(call.table.len()) {
+                continue;
+            }
+            let is_sound = table::is_sound(&call.table);
+            for place in 0..table::places(&call.table) {
+                let held = table::entry(&call.table, place).connection;
+                match (held.stage, held.fins, is_sound) {
+                    (6, 0..=3, true) => sound[usize::from(held.fins)] += 1,
+                    (6, 4, false) => unsound[0] += 1,
+                    (7, 0..=3, false) => unsound[1] += 1,
+                    _ => {}
+                }
+            }
+        }
+        assert!(sound.iter().all(|&count| count >= 100), "{sound:?}");
+        assert!(unsound.iter().all(|&count| count >= 10), "{unsound:?}");
+    }
+
     /// What only a table filled up to its last place can show.
     #[derive(Clone, Copy, Debug, PartialEq, Eq, PartialOrd, Ord)]
     enum AtTheEnd {

@@ -121,6 +121,7 @@ mod tests {
     use crate::trace::read_line;
     use crate::trace_run::{run, TraceRun};
     use crate::traffic::causes::Seen;
+    use crate::traffic::{Made, ResetCounts};
 
     #[test]
     fn one_seed_one_text() {
@@ -161,6 +162,42 @@ mod tests {
         for answer in (5..=16).chain([0, 21, 22]) {
             assert!(counts[answer] >= 20, "{answer}: {counts:?}");
         }
+    }
+
+    /// Resets pass and are refused in every stage, and what comes after them is
+    /// of every kind.
+    #[test]
+    fn resets_and_what_follows_them() {
+        let mut run = TraceRun::default();
+        let mut packet = [0; LONGEST_PACKET];
+        let mut counts = ResetCounts::default();
+        for line in lines(1, 40_000) {
+            let before = run.table().to_vec();
+            let answer = run.line(&line).answer;
+            let read = read_line(&line, &mut packet);
+            if read.answer == 0 {
+                counts.count(&Made {
+                    before: &before,
+                    side: read.side,
+                    clock: read.clock,
+                    packet: &packet[..read.length],
+                    answer,
+                    after: run.table(),
+                });
+            }
+        }
+        let each = [
+            &counts.passed[1..],
+            &counts.refused[1..],
+            counts.senders.as_flattened(),
+            &counts.returned[3..],
+            &[counts.returned_from_2, counts.last_live],
+            &[counts.just_expired, counts.reopened],
+            &[counts.syn_refused, counts.syn_passed],
+        ];
+        assert!(each.concat().iter().all(|&count| count >= 20), "{counts:?}");
+        // Never to stage 2.
+        assert_eq!(counts.returned[..3], [0; 3]);
     }
 
     #[test]

@@ -61,8 +61,8 @@ pub fn make_unsound(table: &mut [u8], clause: Clause, random: &mut Random) {
     let place = random.index(table::places(table));
     let stage = match clause {
         Clause::Stage1Opener | Clause::Stage1Answerer => 1,
-        Clause::Fins => random.between(1, 5) as u8,
-        _ => random.between(2, 5) as u8,
+        Clause::Fins => random.pick(&[1, 2, 3, 4, 5, 6, 6, 6]),
+        _ => random.between(2, 6) as u8,
     };
     let deadline = any_deadline(clock, random);
     table::store_entry(table, place, &sound_entry(stage, deadline, random));
@@ -83,7 +83,7 @@ pub fn make_unsound(table: &mut [u8], clause: Clause, random: &mut Random) {
             entry[0] = 0;
             entry[random.between(1, 63) as usize] |= bit;
         }
-        Clause::Stage => entry[0] = random.pick(&[6, 7, 128, 255]),
+        Clause::Stage => entry[0] = random.pick(&[7, 7, 8, 128, 255]),
         Clause::Side => entry[SIDE] = random.pick(&[2, 3, 128, 255]),
         Clause::ZeroByte => entry[ZERO] = bit,
         Clause::LastZeros => entry[random.between(LAST_ZEROS as u64, 63) as usize] = bit,
@@ -127,6 +127,7 @@ fn wrong_fins(stage: u8, random: &mut Random) -> u8 {
     match stage {
         4 => random.pick(&[0, 3, 4, 5, 129]),
         5 => random.pick(&[0, 1, 2, 4, 7]),
+        6 => random.pick(&[4, 4, 5, 7, 128]),
         _ => random.pick(&[1, 2, 3, 4, 128]),
     }
 }
@@ -193,7 +194,7 @@ fn occupy(table: &mut [u8], random: &mut Random) {
 }
 
 fn store_any_stage(table: &mut [u8], place: usize, deadline: u64, random: &mut Random) {
-    let stage = random.between(1, 5) as u8;
+    let stage = random.between(1, 6) as u8;
     table::store_entry(table, place, &sound_entry(stage, deadline, random));
 }
 
@@ -303,6 +304,7 @@ fn sound_entry(stage: u8, deadline: u64, random: &mut Random) -> Entry {
             fins: match stage {
                 4 => random.pick(&[1, 2]),
                 5 => 3,
+                6 => random.below(4) as u8,
                 _ => 0,
             },
             deadline,

@@ -1,14 +1,16 @@
 //! Traffic over one table, fresh or filled at first: honest connections, and
 //! between them probes at the bounds, spoilt and damaged packets, floods,
-//! strangers and resets. The table is kept as this library's filter leaves it,
-//! so that the next packets can be aimed.
+//! strangers and resets. No end ever gets a reset: they are lost past the filter
+//! and repeated, and the honest ends go on (document 02, item 6). The table is
+//! kept as this library's filter leaves it, so that the next packets can be
+//! aimed.
 
 use super::draft::{spoil, Draft};
 use super::honest::Link;
 use super::random::Random;
 use super::tables::{fill, vacate};
 use super::tcp_sums::spoil_tcp_sum;
-use crate::connection::{Connection, ANSWERER, OPENER};
+use crate::connection::{Connection, ANSWERER, OPENER, RESET_STAGE};
 use crate::filter::{filter, PASSED};
 use crate::packet::{ACK, FIN, RST, SYN};
 use crate::table::{self, Entry, Names, CLOCK_LIMIT, ENTRY};
@@ -17,6 +19,8 @@ use crate::table::{self, Entry, Names, CLOCK_LIMIT, ENTRY};
 const OLDEST_ACKNOWLEDGEMENT: u32 = 66_000;
 /// The most honest connections at a time.
 const MOST_LINKS: usize = 12;
+/// The most passed resets that are kept to be repeated.
+const MOST_RESETS: usize = 8;
 const DAY: u64 = 86_400_000;
 /// How long the entries of a filled table live at least, in ms: most calls of
 /// the world find it as full as it began.
@@ -35,6 +39,8 @@ pub struct World {
     table: Vec<u8>,
     clock: u64,
     links: Vec<Link>,
+    /// Resets that passed, some of them from earlier connections.
+    resets: Vec<Arrival>,
     /// SYNs left of a flood.
     flood: usize,
     /// The longest payload of a segment.
@@ -55,6 +61,7 @@ impl World {
             table: vec![0; ENTRY * (places + 1)],
             clock,
             links: Vec::new(),
+            resets: Vec::new(),
             flood: 0,
             longest,
         }
@@ -115,9 +122,12 @@ impl World {
                 140..=169 => self.stage_1_probe(),
                 170..=217 => self.spoilt(),
                 218..=267 => self.stranger(),
-                268..=277 => self.reset(),
-                278..=281 => self.expiry_probe(),
-                282..=285 => self.damaged(),
+                268..=297 => self.reset(),
+                298..=305 => self.repeated_reset(),
+                306..=309 => self.expiry_probe(|_| true),
+                310..=319 => self.expiry_probe(was_reset),
+                320..=325 => self.reopening(),
+                326..=329 => self.damaged(),
                 _ => None,
             }
         };
@@ -162,8 +172,8 @@ impl World {
         result
     }
 
-    /// Makes a call that no honest end made, unless it would pass on the entry
-    /// of a sheltered connection.
+    /// Makes a call of no honest end's segment, unless it would pass on the entry
+    /// of a sheltered connection and is no reset from stage 2 on.
     fn offer(&mut self, arrival: Arrival) -> Option<Arrival> {
         let before = self.table.clone();
         let clock = self.clock;
@@ -171,20 +181,36 @@ impl World {
         if answer != PASSED {
             return Some(arrival);
         }
+        // "Demand 3 now allows resets sent from stage 2 on that themselves pass."
+        let is_reset = was_reset(&table::entry(&self.table, place as usize).connection);
         // The clock is not to stop at its end for the rest of the trace.
         let at_the_end = arrival.clock == CLOCK_LIMIT - 1;
         let spoils = |link: &Link| {
             link.sheltered && link.place == Some(place) && is_live(&before, link, arrival.clock)
         };
-        if at_the_end || self.links.iter().any(spoils) {
+        if at_the_end || !is_reset && self.links.iter().any(spoils) {
             self.table = before;
             self.clock = clock;
             return None;
+        }
+        if is_reset {
+            self.keep_reset(&arrival);
+            return Some(arrival);
         }
         // A sheltered connection whose place was taken is over.
         self.links
             .retain(|link| !link.sheltered || link.place != Some(place));
         Some(arrival)
+    }
+
+    /// Keeps a passed reset for its repetition, in the place of another one if
+    /// there are many.
+    fn keep_reset(&mut self, arrival: &Arrival) {
+        if self.resets.len() == MOST_RESETS {
+            let at = self.random.index(MOST_RESETS);
+            self.resets.swap_remove(at);
+        }
+        self.resets.push(arrival.clone());
     }
 
     /// An arrival of an honest end's segment.
@@ -244,8 +270,16 @@ impl World {
     }
 
     /// Names that no link has. They are few enough to come again, also while an
-    /// entry of an earlier connection is still live.
+    /// entry of an earlier connection is still live; now and then they are those
+    /// of one that was reset.
     fn new_names(&mut self) -> Names {
+        if self.random.once_in(4) {
+            let names = self.live_entry(was_reset).map(|entry| entry.names);
+            let is_free = |names: &Names| self.links.iter().all(|link| link.names != *names);
+            if let Some(names) = names.filter(is_free) {
+                return names;
+            }
+        }
         loop {
             let names = Names {
                 opener_address: 0x0a00_0000 + self.random.below(8) as u32,
@@ -260,10 +294,15 @@ impl World {
     }
 
     /// Any legal clock; now and then the last one at which the link's entry is
-    /// live, or the first at which it is not.
+    /// live, or the first at which it is not, more often after a reset.
     fn honest_clock(&mut self, link: &Link) -> u64 {
-        if self.random.once_in(1_000) {
-            if let Some(entry) = entry_of(&self.table, link) {
+        if let Some(entry) = entry_of(&self.table, link) {
+            let seldom = if was_reset(&entry.connection) {
+                12
+            } else {
+                1_000
+            };
+            if self.random.once_in(seldom) {
                 let early = self.random.pick(&[0, 1, 1]);
                 return (entry.connection.deadline - early).min(CLOCK_LIMIT - 2);
             }
@@ -312,18 +351,19 @@ impl World {
     fn bound_probe(&mut self) -> Option<Arrival> {
         let entry = self.live_entry(|held| held.stage >= 2)?;
         let sender = self.random.index(2);
-        let numbers = self.numbers_at_bound(&entry.connection, sender);
-        Some(self.arrival_on(&entry, sender, numbers))
-    }
-
-    fn numbers_at_bound(&mut self, held: &Connection, sender: usize) -> Numbers {
-        let random = &mut self.random;
-        let (from, to) = (held.ends[sender], held.ends[1 - sender]);
-        let flags = if random.once_in(3) {
-            random.pick(&[ACK | FIN, SYN, SYN | ACK, RST, RST | ACK, RST | FIN])
+        let flags = if self.random.once_in(3) {
+            let others = [ACK | FIN, SYN, SYN | ACK, RST, RST | ACK, RST | FIN];
+            self.random.pick(&others)
         } else {
             ACK
         };
+        let numbers = self.numbers_at_bound(&entry.connection, sender, flags);
+        Some(self.arrival_on(&entry, sender, numbers))
+    }
+
+    fn numbers_at_bound(&mut self, held: &Connection, sender: usize, flags: u8) -> Numbers {
+        let random = &mut self.random;
+        let (from, to) = (held.ends[sender], held.ends[1 - sender]);
         let room = from.edge.wrapping_sub(from.end);
         let payload = match random.below(8) {
             _ if flags & SYN != 0 => 0,
@@ -396,29 +436,121 @@ impl World {
         Some(self.arrival_on(&entry, sender, numbers))
     }
 
-    /// A reset that passes.
+    /// A reset of a live connection by either of its ends or by one that knows
+    /// its numbers: mostly of an honest one, often of one that was reset before.
     fn reset(&mut self) -> Option<Arrival> {
-        let entry = self.live_entry(|_| true)?;
-        let ends = &entry.connection.ends;
-        let sender = if entry.connection.stage == 1 {
-            ANSWERER
+        let entry = self.entry_to_reset()?;
+        let held = &entry.connection;
+        if held.stage == 1 {
+            let numbers = self.reset_in_stage_1(held);
+            return Some(self.arrival_on(&entry, ANSWERER, numbers));
+        }
+        let sender = self.random.index(2);
+        let flags = RST | self.random.pick(&[0, ACK]) | self.random.pick(&[0, 0, FIN]);
+        let numbers = if self.random.once_in(4) {
+            self.numbers_at_bound(held, sender, flags)
         } else {
-            self.random.index(2)
-        };
-        let numbers = Numbers {
-            flags: RST | ACK,
-            sequence: ends[sender].end,
-            acknowledgement: ends[1 - sender].end,
-            window: 0,
-            payload: 0,
+            self.numbers_in_range(held, sender, flags)
         };
         Some(self.arrival_on(&entry, sender, numbers))
     }
 
+    fn entry_to_reset(&mut self) -> Option<Entry> {
+        let entry = match self.random.below(4) {
+            0 => self.live_entry(was_reset),
+            1 => None,
+            _ if self.links.is_empty() => None,
+            _ => {
+                let at = self.random.index(self.links.len());
+                let link = &self.links[at];
+                entry_of(&self.table, link).filter(|_| is_live(&self.table, link, self.clock))
+            }
+        };
+        entry.or_else(|| self.live_entry(|_| true))
+    }
+
+    /// "from the answerer, with a = opener end, [...] ACK+RST without FIN"
+    fn reset_in_stage_1(&mut self, held: &Connection) -> Numbers {
+        Numbers {
+            flags: RST | ACK,
+            sequence: self.random.place(),
+            acknowledgement: held.ends[OPENER].end,
+            window: self.random.window(),
+            payload: self.random.index(3),
+        }
+    }
+
+    /// Anywhere in both ranges, but for FIN where there is no room for it, and
+    /// without ACK with any acknowledgement. What it says of octets and window
+    /// would often raise the numbers, were it no reset.
+    fn numbers_in_range(&mut self, held: &Connection, sender: usize, flags: u8) -> Numbers {
+        let random = &mut self.random;
+        let (from, to) = (held.ends[sender], held.ends[1 - sender]);
+        let low = from.end.wrapping_sub(to.win);
+        let room = u64::from(from.edge.wrapping_sub(low));
+        let start = match random.below(4) {
+            0 => random.between(0, room),
+            1 => 0,
+            _ => u64::from(to.win),
+        };
+        let rest = (room - start).saturating_sub(u64::from(flags & FIN));
+        let payload = match random.below(4) {
+            0 => rest,
+            1 => random.between(0, rest.min(64)),
+            _ => 0,
+        };
+        let oldest = u64::from(OLDEST_ACKNOWLEDGEMENT);
+        let age = random.between(0, oldest);
+        let age = random.pick(&[0, 0, age, oldest]);
+        let acknowledgement = if flags & ACK == 0 {
+            random.place()
+        } else {
+            to.end.wrapping_sub(age as u32)
+        };
+        Numbers {
+            flags,
+            sequence: low.wrapping_add(start as u32),
+            acknowledgement,
+            window: random.window(),
+            payload: payload.min(self.longest as u64) as usize,
+        }
+    }
+
+    /// A reset that passed, again: by now its numbers may be old, its entry
+    /// another connection's or gone.
+    fn repeated_reset(&mut self) -> Option<Arrival> {
+        if self.resets.is_empty() {
+            return None;
+        }
+        let at = self.random.index(self.resets.len());
+        let reset = self.resets[at].clone();
+        Some(Arrival {
+            clock: self.call_clock(),
+            ..reset
+        })
+    }
+
+    /// A SYN of the ports of a connection that was reset, before it expires or
+    /// after; now and then the connection's own.
+    fn reopening(&mut self) -> Option<Arrival> {
+        let entry = self.live_entry(was_reset)?;
+        let opener = entry.connection.ends[OPENER];
+        let mut numbers = self.random_numbers(&[SYN]);
+        if self.random.once_in(4) {
+            let back = self.random.pick(&[0, 1, 1, 2]);
+            numbers.sequence = opener.end.wrapping_sub(back);
+        }
+        let mut arrival = self.arrival_on(&entry, OPENER, numbers);
+        if self.random.once_in(2) {
+            arrival.clock = self.about(entry.connection.deadline);
+        }
+        Some(arrival)
+    }
+
     /// What would pass, one before, at or one after the deadline; now and then
     /// an opening, which finds the place expired or not.
-    fn expiry_probe(&mut self) -> Option<Arrival> {
-        let entry = self.live_entry(|_| true)?;
+    fn expiry_probe(&mut self, fits: fn(&Connection) -> bool) -> Option<Arrival> {
+        let entry = self.live_entry(fits)?;
         let ends = &entry.connection.ends;
         let in_stage_1 = entry.connection.stage == 1;
         let numbers = Numbers {
@@ -433,9 +565,14 @@ impl World {
         } else {
             self.arrival_on(&entry, OPENER, numbers)
         };
-        let step = self.random.below(3);
-        arrival.clock = (entry.connection.deadline + step - 1).min(CLOCK_LIMIT - 2);
+        arrival.clock = self.about(entry.connection.deadline);
         Some(arrival)
+    }
+
+    /// One before, at or one after the deadline.
+    fn about(&mut self, deadline: u64) -> u64 {
+        let step = self.random.below(3);
+        (deadline + step - 1).min(CLOCK_LIMIT - 2)
     }
 
     /// The opening SYN of one that never answers.
@@ -588,6 +725,11 @@ fn entry_of(table: &[u8], link: &Link) -> Option<Entry> {
     (entry.names == link.names && entry.connection.stage != 0).then_some(entry)
 }
 
+/// "a passed reset now gives stage 6"
+fn was_reset(held: &Connection) -> bool {
+    held.stage == RESET_STAGE
+}
+
 /// Whether a call with this clock finds the link's entry live.
 fn is_live(table: &[u8], link: &Link, clock: u64) -> bool {
     let clock_used = clock.max(table::clock(table));
@@ -609,6 +751,41 @@ mod tests {
             }
             assert!(table::is_sound(world.table()));
         }
+    }
+
+    /// Every honest segment after a reset is checked too: nothing else that
+    /// passes leads a sheltered connection back from stage 6.
+    #[test]
+    fn honest_ends_go_on_after_resets() {
+        let mut returned = [0; 6];
+        for seed in 1..5 {
+            let mut world = World::new(seed, 64, 1_900);
+            for _ in 0..10_000 {
+                let were_reset: Vec<u32> = world
+                    .links
+                    .iter()
+                    .filter(|link| link.sheltered)
+                    .filter(|link| is_live(&world.table, link, world.clock))
+                    .filter_map(|link| link.place)
+                    .filter(|&place| was_reset(&connection_at(&world, place)))
+                    .collect();
+                world.next_arrival();
+                for place in were_reset {
+                    let stage = connection_at(&world, place).stage;
+                    if (3..=5).contains(&stage) {
+                        returned[usize::from(stage)] += 1;
+                    }
+                }
+            }
+        }
+        assert!(
+            returned[3..].iter().all(|&count| count > 20),
+            "{returned:?}"
+        );
+    }
+
+    fn connection_at(world: &World, place: u32) -> Connection {
+        table::entry(&world.table, place as usize).connection
     }
 
     /// The same where they find other connections' entries.
