@@ -3,3 +3,4 @@ pub mod Ranges
 pub mod Stages
 pub mod Decision
 pub mod Sound
+pub mod Examples

@@ -9,7 +9,8 @@ use Rattle.segment.specs.Flags.{SYN}
 use Rattle.packet.specs.declared.PacketRead.{PacketRead}
 use Rattle.packet.specs.declared.Cause.the-variants.{Short}
 use Rattle.packet.specs.declared.PacketRead.the-variants.{Refused, Tcp}
-use Rattle.rows.specs.Examples.{outward, segment}
+use Rattle.connection.specs.Examples.{segment}
+use Rattle.rows.specs.Examples.{outward}
 use Rattle.demands.specs.Demands.{Demands}
 
 -- the first two take every packet for one SYN

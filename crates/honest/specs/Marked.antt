@@ -7,11 +7,12 @@ use Rattle.address.specs.Flows.{reversed}
 use Rattle.segment.specs.Flags.{SYN, SYN+ACK, ACK}
 use Rattle.segment.specs.declared.Segment.{Segment}
 use Rattle.connection.specs.Ends.{opener, answerer, recordOf}
+use Rattle.connection.specs.Examples.{numbers, segment}
 use Rattle.connection.specs.declared.End.{End}
 use Rattle.rows.specs.Rows as rows
 use Rattle.rows.specs.Rows.{Entry, View, Ask, Passed, filter, answerOf, placeBy, nowhere}
 use Rattle.rows.specs.Connections.{connections}
-use Rattle.rows.specs.Examples.{outward, numbers, segment}
+use Rattle.rows.specs.Examples.{outward}
 use Rattle.honest.specs.Demand2.{fresh}
 
 -- Calls

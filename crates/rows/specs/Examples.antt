@@ -5,9 +5,8 @@ use mathlib.Core.List.{[], _∷_}
 use Rattle.address.specs.Flows.{dotted, endpoint, between, reversed, noFlow}
 use Rattle.address.specs.declared.Flow.{Flow}
 use Rattle.segment.specs.Flags.{SYN, ACK, ACK+RST}
-use Rattle.segment.specs.declared.Segment.{Segment}
-use Rattle.connection.specs.Ends.{count, seqNum}
 use Rattle.connection.specs.Decision.{free}
+use Rattle.connection.specs.Examples.{numbers, segment}
 use Rattle.connection.specs.declared.Connection.{Connection}
 use Rattle.connection.specs.declared.End.{End}
 use Rattle.rows.specs.Rows.{Ask, Entry, View, matchOf, filter, answerOf, after, placeBy}
@@ -23,10 +22,6 @@ outward = between (endpoint (dotted 10 0 0 1) 1024) (endpoint (dotted 10 0 0 2) 
 -- of no entry
 abbrev stranger : Flow
 stranger = between (endpoint (dotted 10 0 0 3) 1024) (endpoint (dotted 10 0 0 2) 80)
-
--- end, edge and win
-abbrev pub numbers : (end edge win : ℕ) → End
-numbers end edge win = record { end = seqNum end; edge = seqNum edge; win = count win }
 
 abbrev connection : (side stage deadline : ℕ) (opener answerer : End) → Connection
 connection side stage deadline opener answerer = record { stage = stage; side = side; fins = 0; deadline = deadline; ends = opener ∷ answerer ∷ [] }
@@ -66,9 +61,6 @@ abbrev full : View connections
 full = table (entry outward (unanswered 101)) (entry outward (unanswered 101)) (entry outward (unanswered 101))
 
 -- Calls
-
-abbrev pub segment : (flags s n a w : ℕ) → Segment
-segment flags s n a w = record { seq = seqNum s; ack = seqNum a; window = count w; flags = flags; octets = count n }
 
 -- by side, clock, addresses and ports; flags, s, n, a and w
 abbrev call : (side clock : ℕ) → Flow → (flags s n a w : ℕ) → Ask
