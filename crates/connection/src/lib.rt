@@ -439,12 +439,12 @@ impl Connection {
         let side = self.side;
         let fins = self.fins;
         let ends = self.ends;
-        let deadline = clock + life(6);
+        let expiry = clock + life(6);
         Connection {
             stage: 6,
             side: side,
             fins: fins,
-            deadline: deadline,
+            deadline: expiry,
             ends: ends,
         }
     }

@@ -24,16 +24,16 @@ spoilt from n v q = record {
 
 -- the opener's sending 4 with a time to live of 63 for 64: the header's sum is wrong
 abbrev pub wrongHeaderSum : BytesCall
-wrongHeaderSum = spoilt 8 1 63 (bytesCall (brings 180900 (o 4) .0))
+wrongHeaderSum = spoilt 8 1 63 (bytesCall (brings 280900 (o 4) .0))
 
 -- its sending 6 with more-fragments set and a time to live of 32, so that the sum is right
 abbrev pub fragment : BytesCall
-fragment = spoilt 6 3 0x200020 (bytesCall (brings 181900 (o 6) .0))
+fragment = spoilt 6 3 0x200020 (bytesCall (brings 281900 (o 6) .0))
 
 -- the answerer's sending 2 with a window of 65,535 for 2,510: TCP's sum is wrong. Passed, it would let the opener send up to an edge that the
 -- answerer has not granted
 abbrev pub wrongWindow : BytesCall
-wrongWindow = spoilt 34 2 0xffff (bytesCall (brings 181050 (a 2) .0))
+wrongWindow = spoilt 34 2 0xffff (bytesCall (brings 281050 (a 2) .0))
 
 -- each right before the arrival of the packet that it was made from: 44 of the witness's events come after the fragment, 55 after the wrong window, 56
 -- after the wrong header sum

@@ -240,7 +240,7 @@ module _ (h : List LineSegment) (p : LineSegment) (is-reset : rst (p .flags) ≡
     reset-stage = if-= _ _ is-reset ∙ if-≤ _ _ (open-h .stage)
 
     reset-fins : finsOf (p ∷ h) ≡ finsOf h
-    unfolding finsOf
+    unfolding finsOf finsAfter if_then_else_
     reset-fins = if-= _ _ is-reset
 
     pub reset-answered : Answered (p ∷ h)

@@ -1,6 +1,6 @@
 -- A list of events over the rows can be checked to be legal by computation.
 use Prim.Native.Nat.{ℕ, _+_, _-_, _<_, _≤_, max}
-use mathlib.Core.Path.{_≡_, refl, sym, ap, _∙_}
+use mathlib.Core.Path.{_≡_, refl, sym, subst, _∙_}
 use mathlib.Core.Logic.{_⊎_, inl, inr, ⊎-elim}
 use mathlib.Core.Bool.{Bool, true, false, _&&_, _||_, not}
 use mathlib.Core.List.{List, [], _∷_}
@@ -20,12 +20,11 @@ use Rattle.rows.specs.Rows.{View, matchOf}
 use Rattle.rows.specs.Connections.{connections}
 use Rattle.rows.specs.declared.Found.{Found}
 use Rattle.rows.specs.declared.Found.the-variants.{At, Nothing}
-use Rattle.history.specs.History.{LineSegment, onWire, Formed}
+use Rattle.history.specs.History.{LineSegment, onWire, stageOf, Formed}
 use Rattle.honest.specs.Machine.{asks, Machine}
 use Rattle.honest.specs.Rules.{Label, opening, arrival, other, IsArrivalOf, Event, send, call, delivery, Pair, sideOf, keyOf, sentBy, Sent, Arrived, receivedBy, highest, some, ackOf, edgeOf, endOf, hasAnswer, OpenersSyn, AnswerersSynAck, LaterSegment, AnyReset, Allowed, openers-syn, answerers-syn-ack, later, any-reset}
-use Rattle.honest.specs.Honest.{told, passes, passedOnOurs, Live, WasPassed, bringing, Arrives, InOrder, Opening, Arrival, FairCall, Fair, Legal}
+use Rattle.honest.specs.Honest.{told, passes, passedOnOurs, Live, WasPassed, bringing, Arrives, InOrder, Opening, Arrival, FairCall, Fair, Legal, ArrivalAsWritten, FairAsWritten, LegalAsWritten}
 use Rattle.honest.specs.Instance.{ViewCall, viewMachine}
-use Rattle.honest.proofs.Sends.{NoneLater}
 
 -- Tests with what they show
 
@@ -121,13 +120,13 @@ formed p =
 
 -- Events
 
--- where neither this sending nor one before is past the k-th of end i
+-- what holds of one arrival and of all before it holds of all
 pub one-more :
-    {A : ℕ → LineSegment → Type 0} (i k n : ℕ) (p : LineSegment) → (p .from ≡ i → rst (p .flags) ≡ 0 → n ≤ k) → NoneLater A i k →
-    NoneLater (λ j g. ((j ≡ n) × (g ≡ p)) ⊎ A j g) i k
-one-more i k n p this before j g (inl (same, is)) of-i none =
-    rw same (this (ap (λ (x : LineSegment). x .from) (sym is) ∙ of-i) (ap (λ (x : LineSegment). rst (x .flags)) (sym is) ∙ none))
-one-more i k n p this before j g (inr was) of-i none = before j g was of-i none
+    {A : ℕ → LineSegment → Type 0} (T : ℕ → LineSegment → Type 0) (n : ℕ) (p : LineSegment) → T n p →
+    ((j : ℕ) (g : LineSegment) → A j g → T j g) → (j : ℕ) (g : LineSegment) → ((j ≡ n) × (g ≡ p)) ⊎ A j g →
+    T j g
+one-more T n p this before j g (inl (same, is)) = subst (λ (m : ℕ). T m g) (sym same) (subst (T n) (sym is) this)
+one-more T n p this before j g (inr was) = before j g was
 
 module _ (t₀ : View connections) (P : Pair) where
   abbrev M : Machine
@@ -229,19 +228,21 @@ module _ (t₀ : View connections) (P : Pair) where
   abbrev isLive : (q : ViewCall) (L : Seen) → Test (Live M (told M t₀ L) q)
   isLive q L = so (λ under. omega (arith, under)) (below (max (q .0 .clock) (told M t₀ L .passClock)) (told M t₀ L .until))
 
-  -- no later sending of end i has arrived
-  abbrev noneLater : (i k : ℕ) (L : Seen) → Test (NoneLater (λ j g. Arrived j g L) i k)
-  noneLater i k [] = yes (λ j g never. absurd never)
-  noneLater i k (send p ∷ L) = noneLater i k L
-  noneLater i k (call q (opening n p) ∷ L) =
-      so (λ h. one-more i k n p (h .0) (h .1)) (both (ifEqual (p .from) i (ifEqual (rst (p .flags)) 0 (atMost n k))) (noneLater i k L))
-  noneLater i k (call q (arrival n p) ∷ L) =
-      so (λ h. one-more i k n p (h .0) (h .1)) (both (ifEqual (p .from) i (ifEqual (rst (p .flags)) 0 (atMost n k))) (noneLater i k L))
-  noneLater i k (call q other ∷ L) = so (λ h j g was. ⊎-elim (λ never. absurd never) (h j g) was) (noneLater i k L)
-  noneLater i k (delivery n p ∷ L) = noneLater i k L
+  -- of each sending that has arrived
+  abbrev everyArrived :
+      (T : ℕ → LineSegment → Type 0) → ((j : ℕ) (g : LineSegment) → Test (T j g)) → (L : Seen) →
+      Test ((j : ℕ) (g : LineSegment) → Arrived j g L → T j g)
+  everyArrived T test [] = yes (λ j g never. absurd never)
+  everyArrived T test (send p ∷ L) = everyArrived T test L
+  everyArrived T test (call q (opening n p) ∷ L) = so (λ h. one-more T n p (h .0) (h .1)) (both (test n p) (everyArrived T test L))
+  everyArrived T test (call q (arrival n p) ∷ L) = so (λ h. one-more T n p (h .0) (h .1)) (both (test n p) (everyArrived T test L))
+  everyArrived T test (call q other ∷ L) = so (λ h j g was. ⊎-elim (λ never. absurd never) (h j g) was) (everyArrived T test L)
+  everyArrived T test (delivery n p ∷ L) = everyArrived T test L
 
   abbrev inOrder : (i k : ℕ) (L : Seen) → Test (InOrder M i k L)
-  inOrder i k L = so (λ h j g was mine none. omega (arith, h j g was mine none)) (noneLater i k L)
+  inOrder i k L =
+      so (λ h j g was mine none. omega (arith, h j g was mine none))
+      (everyArrived (λ j g. g .from ≡ i → rst (g .flags) ≡ 0 → j ≤ k) (λ j g. ifEqual (g .from) i (ifEqual (rst (g .flags)) 0 (atMost j k))) L)
 
   abbrev comes : (k : ℕ) (p : LineSegment) (q : ViewCall) (L : Seen) → Test (Arrival M t₀ P k p q L)
   comes k p q L =
@@ -287,6 +288,34 @@ module _ (t₀ : View connections) (P : Pair) where
   abbrev pub checked : (L : Seen) → Test (Legal M t₀ P L)
   checked [] = yes tt
   checked (x ∷ L) = both (fair x L) (checked L)
+
+  -- As document 02 words it
+
+  abbrev comesAsWritten : (k : ℕ) (p : LineSegment) (q : ViewCall) (L : Seen) → Test (ArrivalAsWritten M t₀ P k p q L)
+  comesAsWritten k p q L =
+      so (λ h. record {
+        after-opening = h .0;
+        arrives = arrives k p q L (h .1 .0);
+        in-order = λ j g was mine. omega (arith, h .1 .1 .0 j g was mine);
+        live = h .1 .1 .1 .0;
+        reset-passes = h .1 .1 .1 .1;
+      })
+      (both (isTrue (told M t₀ L .openingSeen))
+      (both (brings k p q L)
+      (both (everyArrived (λ j g. g .from ≡ p .from → j ≤ k) (λ j g. ifEqual (g .from) (p .from) (atMost j k)) L)
+      (both (isLive q L) (ifEqual (rst (p .flags)) 1 (isTrue (passes M (told M t₀ L) q)))))))
+
+  abbrev fairAsWritten : (x : Event ViewCall) (L : Seen) → Test (FairAsWritten M t₀ P x L)
+  fairAsWritten (send p) L =
+      so (λ h. (h .0, λ reset. omega (arith, h .1 reset))) (both (fair (send p) L) (ifEqual (rst (p .flags)) 1 (atMost 2 (stageOf (told M t₀ L .history)))))
+  fairAsWritten (call q (opening k p)) L = opens k p q L
+  fairAsWritten (call q (arrival k p)) L = comesAsWritten k p q L
+  fairAsWritten (call q other) L = so (λ not-ours ours-is. false-true (sym not-ours ∙ ours-is)) (isFalse (passedOnOurs M (told M t₀ L) q))
+  fairAsWritten (delivery k p) L = hasPassed k p L
+
+  abbrev pub checkedAsWritten : (L : Seen) → Test (LegalAsWritten M t₀ P L)
+  checkedAsWritten [] = yes tt
+  checkedAsWritten (x ∷ L) = both (fairAsWritten x L) (checkedAsWritten L)
 
   abbrev pub legal? : List (Event ViewCall) → Bool
   legal? L = checked L .holds

@@ -29,10 +29,10 @@ pub highest-up : (f : LineSegment → ℕ) (p : LineSegment) (l : List LineSegme
 unfolding highest
 highest-up f p [] here none = absurd here
 highest-up f p (g ∷ l) here none =
-    if-cases (λ n. f p ≤ n) (isReset (g .flags)) (highest f l) (max (f g) (highest f l))
+    if-cases (λ n. f p ≤ n) (isReset (g .flags)) _ _
     (λ reset.
     ⊎-elim (λ (e : p ≡ g). absurd (none (ap (λ (x : LineSegment). rst (x .flags)) e ∙ eqb-true _ _ reset)))
-    (λ (i : In p l). highest-up f p l i none) here)
+    (λ (i : In p l). omega (arith, highest-up f p l i none)) here)
     (λ _. ⊎-elim (λ (e : p ≡ g). rw e (omega arith)) (λ (i : In p l). omega (arith, highest-up f p l i none)) here)
 
 pub highest-lub :
@@ -42,7 +42,7 @@ unfolding highest
 highest-lub f b [] all = omega arith
 highest-lub f b (g ∷ l) all =
     let rest : highest f l ≤ b = highest-lub f b l (λ p i. all p (inr i)) in
-    if-cases (λ n. n ≤ b) (isReset (g .flags)) (highest f l) (max (f g) (highest f l)) (λ _. rest)
+    if-cases (λ n. n ≤ b) (isReset (g .flags)) _ _ (λ _. omega (arith, rest))
     (λ none. omega (arith, all g (inl refl) (eqb-false _ _ none)))
 
 pub some-in :

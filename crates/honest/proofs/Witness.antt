@@ -15,19 +15,22 @@ use Rattle.rows.specs.Rows.{fromOpener, fromAnswerer, liveMatch, vacant, sender
 use Rattle.history.specs.History.{finsOf, stageOf}
 use Rattle.honest.specs.Rules
 use Rattle.honest.specs.Rules.{sentBy, receivedBy, highest, some}
-use Rattle.honest.specs.Honest.{passes, passedOnOurs, afterCall, told, Legal, NeverBlocked}
+use Rattle.honest.specs.Honest.{passes, passedOnOurs, afterCall, told, Legal, LegalAsWritten, NeverBlocked}
 use Rattle.honest.specs.Instance.{viewMachine}
 use Rattle.honest.specs.Carries.{summaryOf}
 use Rattle.honest.specs.Marked.{empty}
 use Rattle.honest.specs.Witness.{pair, witness, comesTo}
+use Rattle.honest.specs.Needed.{one}
+use Rattle.honest.specs.Written.{written}
 use Rattle.honest.proofs.Instance.{demand3-view, fresh-sound}
-use Rattle.honest.proofs.Check.{legal?, legal?-sound}
+use Rattle.honest.proofs.Check.{legal?, legal?-sound, checkedAsWritten}
 
 computed :
     (legal? empty pair witness ≡ true)
     × (summaryOf (viewMachine (λ p. p)) empty witness ≡ comesTo)
+    × (checkedAsWritten one pair written .holds ≡ true)
 unfolding if_then_else_ wrap ringPlus ringMinus nearest further sent granted endsAfter sequenceMet ackMet lifeOf withFin finsAfter openStage stageAfter sameSyn reply verdictUnanswered verdictByRanges verdictOn opened repeated answered carried reset passed finsOf stageOf firstFrom fromOpener fromAnswerer liveMatch vacant senderOf entryWith onEntry openingEntry unmatched onSegment sameFlow sentBy receivedBy highest some passes passedOnOurs afterCall told Rules.hasAnswer
-computed = (refl, refl)
+computed = (refl, refl, refl)
 
 pub witness-legal : Legal (viewMachine (λ p. p)) empty pair witness
 witness-legal = legal?-sound empty pair witness (computed .0)
@@ -37,3 +40,7 @@ witness-passes = demand3-view (λ p. p) (λ p r e. e) empty (fresh-sound 64) pai
 
 pub witness-shows : summaryOf (viewMachine (λ p. p)) empty witness ≡ comesTo
 witness-shows = computed .1
+
+-- the list in document 02's own words
+pub written-list-legal : LegalAsWritten (viewMachine (λ p. p)) one pair written
+written-list-legal = checkedAsWritten one pair written .shows (computed .2)

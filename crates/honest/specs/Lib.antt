@@ -9,3 +9,4 @@ pub mod Carries
 pub mod Marked
 pub mod Witness
 pub mod Needed
+pub mod Written

@@ -63,10 +63,10 @@ AllShown (n ∷ l) = Shown n × AllShown l
 abbrev opensAt : (clock : ℕ) → Piece → Seen
 opensAt clock p = opens (λ _. p) 0 clock
 
-abbrev comes : (k clock : ℕ) → Piece → Seen
+abbrev pub comes : (k clock : ℕ) → Piece → Seen
 comes k clock p = arrives (λ _. p) k clock
 
-abbrev got : (k : ℕ) → Piece → Seen
+abbrev pub got : (k : ℕ) → Piece → Seen
 got k p = delivers (λ _. p) k
 
 -- sent, arrived and delivered
@@ -94,7 +94,7 @@ synThrough = sends firstSyn ∷ opensAt 0 firstSyn ∷ got 0 firstSyn ∷ []
 abbrev synAckThrough : List Seen
 synAckThrough = synThrough ++ through 0 firstSynAck
 
-abbrev handshake : List Seen
+abbrev pub handshake : List Seen
 handshake = synAckThrough ++ through 1 firstAck
 
 -- 2,000 octets of the opener, the first half acknowledged: its end is 2001, and bound II asks for 1001 or above

@@ -85,7 +85,7 @@ openerSends =
     ∷ opener's ACK 1 1 1 100 tt
     -- 4: up to the right edge of its 1, over 2^32; a shrunk window
     ∷ opener's ACK 2 9 1 50 tt
-    -- 5: a reset; its octets, its window and its acknowledgement, which is further than the next one, count for nothing
+    -- 5: a reset, with octets and a window; its acknowledgement is further than the next one
     ∷ opener's ACK+RST 11 100 101 65535 tt
     -- 6: a zero window from here on; acknowledges half of what was received
     ∷ opener's ACK 11 2000 51 0 tt
@@ -190,41 +190,42 @@ story =
     ∷ arrives a 0 179998
     -- a reset that no end has sent passes in stage 2
     ∷ uncounted 179999 (opener's RST 1 0 0 0 tt)
-    -- the answer has not been delivered, so the SYN again: stage 3, though the opener has not acknowledged; then its ACK, with one octet
+    -- the answer has not been delivered, so the SYN again: stage 3, though the opener has not acknowledged. Then its ACK, with one octet, past the
+    -- life of stage 2
     ∷ sends (o 2)
     ∷ arrives o 2 180000
     ∷ delivers a 0
     ∷ sends (o 3)
-    ∷ arrives o 3 180100
+    ∷ arrives o 3 280100
     -- which has not been delivered, so the answer again; its window is larger, and the opener fills it
     ∷ sends (a 1)
-    ∷ arrives a 1 180200
+    ∷ arrives a 1 280200
     ∷ delivers a 1
     ∷ sends (o 4)
     -- meanwhile the answerer sends: data both ways, over 2^32
     ∷ delivers o 3
     ∷ sends (a 2)
-    ∷ arrives o 4 181000
-    ∷ arrives a 2 181100
+    ∷ arrives o 4 281000
+    ∷ arrives a 2 281100
     -- a segment of no connection, with the largest clock, and two that are out of range, one of them a reset: all are blocked
     ∷ strays (2 ^ 48 - 1) 9 9000 (opener's ACK 1 0 1 1000 tt)
-    ∷ uncounted 181200 (opener's ACK 900000 10 1 1000 tt)
-    ∷ uncounted 181200 (opener's RST 900000 0 0 0 tt)
+    ∷ uncounted 281200 (opener's ACK 900000 10 1 1000 tt)
+    ∷ uncounted 281200 (opener's RST 900000 0 0 0 tt)
     ∷ delivers o 4
     ∷ delivers a 2
     -- the opener resets, which passes twice in a row, in stages 3 and 6, and is lost past the filter both times
     ∷ sends (o 5)
-    ∷ arrives o 5 181300
-    ∷ arrives o 5 181400
+    ∷ arrives o 5 281300
+    ∷ arrives o 5 281400
     -- so both go on. Sent ahead, one of the two lost; the answerer sends again, with a shrunk window, and so does the opener
     ∷ sends (o 6)
     ∷ sends (o 7)
-    ∷ arrives o 6 182000
+    ∷ arrives o 6 282000
     ∷ sends (a 3)
-    ∷ arrives a 3 182100
+    ∷ arrives a 3 282100
     ∷ delivers a 3
     ∷ sends (o 8)
-    ∷ arrives o 8 182200
+    ∷ arrives o 8 282200
     -- out of order, and one of the two twice
     ∷ delivers o 8
     ∷ delivers o 6
@@ -232,21 +233,21 @@ story =
     -- of two acknowledgements one is lost, one passes and is not delivered yet; the opener sends again from below it
     ∷ sends (a 4)
     ∷ sends (a 5)
-    ∷ arrives a 5 183000
+    ∷ arrives a 5 283000
     ∷ sends (o 9)
-    ∷ arrives o 9 183100
+    ∷ arrives o 9 283100
     -- what was lost is sent again, ends exactly at the right edge, passes and is never delivered; so again
     ∷ sends (o 10)
-    ∷ arrives o 10 184000
+    ∷ arrives o 10 284000
     ∷ sends (o 11)
-    ∷ arrives o 11 184100
+    ∷ arrives o 11 284100
     ∷ delivers o 11
     -- a reset with FIN that no end has sent: it sets no FIN bit
-    ∷ uncounted 186000 (answerer's RST+FIN 101 1 0 65535 tt)
+    ∷ uncounted 286000 (answerer's RST+FIN 101 1 0 65535 tt)
     -- the window closes. Another connection opens meanwhile, at place 0, and the clock is set back: it is the last millisecond of stage 6, told from
     -- the other's pass
     ∷ sends (a 6)
-    ∷ strays 195999 5 6000 (opener's SYN 7 1 0 1000 tt)
+    ∷ strays 295999 5 6000 (opener's SYN 7 1 0 1000 tt)
     ∷ arrives a 6 0
     -- out of order, and one of the two twice
     ∷ delivers a 6
@@ -254,26 +255,26 @@ story =
     ∷ delivers a 5
     -- a probe of one octet goes into the closed window, at the last millisecond of stage 3
     ∷ sends (o 12)
-    ∷ arrives o 12 432195998
+    ∷ arrives o 12 432295998
     ∷ delivers o 12
     -- the answerer's FIN; after another reset with FIN, which sets no bit either, it comes again
     ∷ sends (a 7)
-    ∷ arrives a 7 432200000
-    ∷ uncounted 432200100 (opener's RST+FIN 2512 1 0 0 tt)
-    ∷ arrives a 7 432205000
+    ∷ arrives a 7 432300000
+    ∷ uncounted 432300100 (opener's RST+FIN 2512 1 0 0 tt)
+    ∷ arrives a 7 432305000
     ∷ delivers a 7
     -- the opener's, at the last millisecond of stage 4, and again at the last of stage 5
     ∷ sends (o 13)
-    ∷ arrives o 13 435804999
-    ∷ arrives o 13 436044998
+    ∷ arrives o 13 435904999
+    ∷ arrives o 13 436144998
     ∷ delivers o 13
     -- a reset of both FINs' connection, and the last acknowledgement just before its 10,000 ms are over
-    ∷ uncounted 436044999 (answerer's RST 102 0 0 0 tt)
+    ∷ uncounted 436144999 (answerer's RST 102 0 0 0 tt)
     ∷ sends (a 8)
-    ∷ arrives a 8 436054998
+    ∷ arrives a 8 436154998
     -- it expires, and as it does two others open, at place 0 and at place 1, which was its own; what passed last is delivered only now
-    ∷ strays 436294998 6 7000 (opener's SYN 0 1 0 1000 tt)
-    ∷ strays 436294998 7 7000 (opener's SYN 0 1 0 1000 tt)
+    ∷ strays 436394998 6 7000 (opener's SYN 0 1 0 1000 tt)
+    ∷ strays 436394998 7 7000 (opener's SYN 0 1 0 1000 tt)
     ∷ delivers a 8
     ∷ []
 

@@ -7,12 +7,12 @@ use Rattle.connection.proofs.Connection.reset.Tie as tie
 life-requires : tie.Need-life-requires
 life-requires c κs = search needs
 
-add-deadline : tie.Need-add-deadline
-add-deadline c = search needs
+add-expiry : tie.Need-add-expiry
+add-expiry c = search needs
 
 returns : tie.Need-returns
 unfolding reset
 returns c = cc
 
 pub reset-spec : {M : Type 1} → statement M
-reset-spec = tie.close (tie.spec life-requires add-deadline returns)
+reset-spec = tie.close (tie.spec life-requires add-expiry returns)
