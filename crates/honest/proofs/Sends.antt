@@ -536,37 +536,37 @@ module _ {Call : Type 0} (P : Pair) where
       passed = inv .passed;
     }
 
-    pub protocol-passed :
-        (k : ℕ) (p : LineSegment) (s : ℕ) → SentWith k p s L →
-        Protocol (p ∷ h) (λ j g. ((j ≡ k) × (g ≡ p)) ⊎ Arrived j g) (call q l ∷ L)
+    -- with p on the history, and perhaps more that has arrived
+    protocol-grown :
+        (p : LineSegment) (Arrived' : ℕ → LineSegment → Type 0) → ((k : ℕ) (g : LineSegment) → Arrived' k g → (s : ℕ) × SentWith k g s L) →
+        ((k : ℕ) (g : LineSegment) → Arrived k g → Arrived' k g) → (NoReset p → (k : ℕ) × Arrived' k p) →
+        Protocol (p ∷ h) Arrived' (call q l ∷ L)
     unfolding receivedBy
-    protocol-passed k p s sent = record {
+    protocol-grown p Arrived' arrived more this = record {
       senders-known = inv .senders-known;
       facts = λ j g r was none. fact-kept h (p ∷ h) g r L (call q l ∷ L) (rises-more p h) grows-call (inv .facts j g r was none);
       order = inv .order;
       received = λ i g got. let r = inv .received i g got in (inr (r .0), r .1);
-      arrived = λ j g a. ⊎-elim
-          (λ (now : (j ≡ k) × (g ≡ p)).
-          (s, subst (λ (i : ℕ). SentWith i g s L) (sym (now .0)) (subst (λ (f : LineSegment). SentWith k f s L) (sym (now .1)) sent)))
-          (λ (before : Arrived j g). inv .arrived j g before)
-          a;
+      arrived = arrived;
       passed = λ g there none. ⊎-elim
-          (λ (same : g ≡ p). (k, inl (refl, same)))
-          (λ (before : In g h). let r = inv .passed g before none in (r .0, inr (r .1)))
+          (λ (same : g ≡ p).
+          let r = this (λ is. none (ap (λ (f : LineSegment). rst (f .flags)) same ∙ is)) in (r .0, subst (Arrived' (r .0)) (sym same) (r .1)))
+          (λ (before : In g h). let r = inv .passed g before none in (r .0, more (r .0) g (r .1)))
           there;
     }
 
+    pub protocol-passed :
+        (k : ℕ) (p : LineSegment) (s : ℕ) → SentWith k p s L →
+        Protocol (p ∷ h) (λ j g. ((j ≡ k) × (g ≡ p)) ⊎ Arrived j g) (call q l ∷ L)
+    protocol-passed k p s sent =
+        protocol-grown p (λ j g. ((j ≡ k) × (g ≡ p)) ⊎ Arrived j g)
+        (λ j g a. ⊎-elim
+        (λ (now : (j ≡ k) × (g ≡ p)).
+        (s, subst (λ (i : ℕ). SentWith i g s L) (sym (now .0)) (subst (λ (f : LineSegment). SentWith k f s L) (sym (now .1)) sent)))
+        (λ (before : Arrived j g). inv .arrived j g before)
+        a)
+        (λ j g a. inr a) (λ _. (k, inl (refl, refl)))
+
     -- a reset that is no arrival
     pub protocol-reset : (p : LineSegment) → rst (p .flags) ≡ 1 → Protocol (p ∷ h) Arrived (call q l ∷ L)
-    unfolding receivedBy
-    protocol-reset p is = record {
-      senders-known = inv .senders-known;
-      facts = λ j g r was none. fact-kept h (p ∷ h) g r L (call q l ∷ L) (rises-more p h) grows-call (inv .facts j g r was none);
-      order = inv .order;
-      received = λ i g got. let r = inv .received i g got in (inr (r .0), r .1);
-      arrived = inv .arrived;
-      passed = λ g there none. ⊎-elim
-          (λ (same : g ≡ p). absurd (none (ap (λ (f : LineSegment). rst (f .flags)) same ∙ is)))
-          (λ (before : In g h). inv .passed g before none)
-          there;
-    }
+    protocol-reset p is = protocol-grown p Arrived (inv .arrived) (λ j g a. a) (λ none. absurd (none is))
