@@ -1,5 +1,6 @@
 -- Document 02's own words of demand 3 ask for more than its lists need, so they follow.
 use mathlib.Core.List.{List, [], _∷_}
+use native.Mathlib.Omega.{arith}
 use Rattle.honest.specs.Machine.{Machine, KeepsTo}
 use Rattle.honest.specs.Rules.{opening, arrival, other, Event, send, call, delivery, Pair}
 use Rattle.honest.specs.Honest.{Legal, LegalAsWritten, Demand3AsWritten}
@@ -17,7 +18,7 @@ written-legal M s₀ P (call q (arrival k p) ∷ L) legal =
       record {
         after-opening = r .after-opening;
         arrives = r .arrives;
-        in-order = λ none j g was mine no-reset. r .in-order j g was mine;
+        in-order = λ none j g was mine no-reset. omega (arith, r .in-order j g was mine);
         live = r .live;
         reset-passes = r .reset-passes;
       },
