@@ -3,7 +3,7 @@ use Prim.Native.Nat.{ℕ, _+_}
 use mathlib.Core.Bool.{Bool, _&&_, _||_, not}
 use mathlib.Core.List.{[], _∷_}
 use lib.ListN.{set}
-use Rattle.choice.specs.Choice.{if_then_else_, _=ᵇ_, _≠ᵇ_}
+use Rattle.choice.specs.Choice.{if_then_else_, _≤ᵇ_, _=ᵇ_, _≠ᵇ_}
 use Rattle.serial.specs.Serial.{sameSeq, seqBack}
 use Rattle.segment.specs.Flags.{isReset, ack, SYN, SYN+ACK, ACK+RST}
 use Rattle.segment.specs.declared.Segment.{Segment}
@@ -113,7 +113,7 @@ reset c now = record {
 -- answerer's SYN+ACK, and from stage 2 on any segment is carried
 unfoldable pub passed : Connection → ℕ → Segment → ℕ → Connection
 passed c i g now =
-    if isReset (g .flags) then (if c .stage ≠ᵇ 1 then reset c now else free)
+    if isReset (g .flags) then (if 2 ≤ᵇ c .stage then reset c now else free)
     else if c .stage ≠ᵇ 1 then carried c i g now
     else if i =ᵇ opener then repeated c g now
     else answered c g now

@@ -9,7 +9,8 @@ use Rattle.connection.specs.Ends.{opener}
 abbrev pub longestLife : ℕ
 longestLife = 432000000
 
--- life of a stage, in ms: 1 and 2: 60,000; 3: 432,000,000; 4: 3,600,000; 5: 240,000; 6: 10,000. No sound entry has another stage
+-- life of a stage, in ms: 1 and 2: 60,000; 3: 432,000,000; 4: 3,600,000; 5: 240,000; 6: 10,000. No sound entry has another stage; stage 0,
+-- a free connection's, has no life
 unfoldable pub lifeOf : ℕ → ℕ
 lifeOf stage =
     if (1 ≤ᵇ stage) && (stage ≤ᵇ 2) then 60000

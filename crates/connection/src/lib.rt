@@ -11,7 +11,7 @@ use serial::SeqNum;
 
 // What one end has shown: document 01's record.
 pub struct End {
-    // The highest end of a segment that it sent.
+    // The highest end of a segment that it sent, resets left out in all three.
     pub end: SeqNum,
     // The highest right edge that the other end granted it.
     pub edge: SeqNum,
@@ -457,7 +457,7 @@ impl Connection {
         let stage = self.stage;
         if segment.has_rst() {
             return match stage {
-                1 => no_connection(),
+                0..=1 => no_connection(),
                 _ => self.reset(clock),
             };
         }

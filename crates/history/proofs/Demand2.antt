@@ -8,7 +8,7 @@ use native.Mathlib.Omega.{arith}
 use lib.Dec.{eqb}
 use borrow.Author.Tests.{eqb-true, eqb-false}
 use Rattle.choice.specs.Choice.{if_then_else_}
-use Rattle.choice.proofs.Choice.{if-=, if-=-not, if-≠-not}
+use Rattle.choice.proofs.Choice.{if-=, if-=-not, if-≤-not}
 use Rattle.serial.specs.Ring.{wrap, nearest}
 use Rattle.serial.proofs.Ring.{wrap-id, wrap-turn, wrap-nearest, nearest-near}
 use Rattle.segment.specs.Flags.{rst, ack, SYN}
@@ -100,10 +100,10 @@ module _ (c : Connection) (h : List LineSegment) (holds : Holds c h) (reached : 
   judged = rw wire at (judged-on-wire reached)
 
   -- a reset from stage 2 on
-  reset-reached : Reached h → (stageOf h ≡ 1 → ⊥) → rst (o .segment .flags) ≡ 1 → Holds (leftBy c o) (onLine h o ∷ h) × Reached (onLine h o ∷ h)
-  reset-reached (unanswered u turned) later is-reset = absurd (later (u .stage))
+  reset-reached : Reached h → 2 ≤ stageOf h → rst (o .segment .flags) ≡ 1 → Holds (leftBy c o) (onLine h o ∷ h) × Reached (onLine h o ∷ h)
+  reset-reached (unanswered u turned) later is-reset = absurd (omega (arith, u .stage, later))
   reset-reached (answered a turned) later is-reset =
-      let left = passed-reset c (o .sender) (o .segment) (o .now) is-reset (λ e. later (sym (holds .stage) ∙ e)) in (
+      let left = passed-reset c (o .sender) (o .segment) (o .now) is-reset (omega (arith, holds .stage, later)) in (
         rw left (reset-holds h (onLine h o) is-reset a c holds (o .now)),
         answered (reset-answered h (onLine h o) is-reset a) (λ i s. omega (arith, turned i s, numbers-rise i (onLine h o) h)),
       )
@@ -146,23 +146,23 @@ module _ (c : Connection) (h : List LineSegment) (holds : Holds c h) (reached : 
 
   -- a pass that does not free
   pub pass-holds :
-      (stageOf h ≡ 1 → rst (o .segment .flags) ≡ 1 → ⊥) → judge h (onLine h o) ≡ Pass →
+      (rst (o .segment .flags) ≡ 1 → 2 ≤ stageOf h) → judge h (onLine h o) ≡ Pass →
       Holds (leftBy c o) (onLine h o ∷ h) × Reached (onLine h o ∷ h)
   pass-holds kept pass = by-reset (eqb (rst (o .segment .flags)) 1) refl
     where
       by-reset : (t : Bool) → eqb (rst (o .segment .flags)) 1 ≡ t → Holds (leftBy c o) (onLine h o ∷ h) × Reached (onLine h o ∷ h)
-      by-reset true e = let is-reset = eqb-true _ _ e in reset-reached reached (λ first. kept first is-reset) is-reset
+      by-reset true e = let is-reset = eqb-true _ _ e in reset-reached reached (kept is-reset) is-reset
       by-reset false e = carried-reached (eqb-false _ _ e) pass
 
 -- a reset in stage 1 frees
 pub reset-frees : (c : Connection) (i : ℕ) (g : Segment) (now : ℕ) → c .stage ≡ 1 → rst (g .flags) ≡ 1 → passed c i g now ≡ free
 unfolding passed
-reset-frees c i g now first is-reset = if-= _ _ is-reset ∙ if-≠-not _ _ first
+reset-frees c i g now first is-reset = let below : c .stage < 2 = omega arith in if-= _ _ is-reset ∙ if-≤-not _ _ below
 
 -- The theorem, from any history reached
 
 module _ (c : Connection) (h : List LineSegment) (holds : Holds c h) (reached : Reached h) (o : Presented) (legal : Presentable o) where
-  module _ (kept : judgedOver h o ≡ Pass → stageOf h ≡ 1 → rst (o .segment .flags) ≡ 1 → ⊥) where
+  module _ (kept : judgedOver h o ≡ Pass → rst (o .segment .flags) ≡ 1 → 2 ≤ stageOf h) where
     by-answer :
         (v : Verdict) → judgedOver h o ≡ v →
         let h' = if isPass v then onLine h o ∷ h else h in Holds (if isPass v then leftBy c o else c) h' × Reached h'

@@ -53,7 +53,7 @@ module _ (h : List LineSegment) (p : LineSegment) (no-reset : rst (p .flags) ≡
   numbers-sender i mine inside =
       let end : endBy i p ≡ p .start + p .length = if-true _ _ _ (counted i mine) in
       let win : windowBy i p ≡ p .window = if-true _ _ _ (counted i mine) in
-      let own : edgeBy i p ≡ (if syn (p .flags) =ᵇ 1 then p .start + p .length else 0) = if-=-not _ _ no-reset ∙ if-= _ _ mine in
+      let own : edgeBy i p ≡ (if syn (p .flags) =ᵇ 1 then p .start + p .length else 0) = if-false _ _ _ (rw (ne-eqb (rst (p .flags)) 1 no-reset)) ∙ if-= _ _ mine in
       let edge : max (numbersOf i h .edge) (edgeBy i p) ≡ numbersOf i h .edge = rw own (omega (arith, if-either (λ n. n ≤ numbersOf i h .edge) (syn (p .flags) =ᵇ 1) (p .start + p .length) 0 inside (omega arith))) in
       one-more i ∙ λ k. record { end = ap (max (numbersOf i h .end)) end k; edge = edge k; win = ap (max (numbersOf i h .win)) win k }
 
@@ -64,7 +64,7 @@ module _ (h : List LineSegment) (p : LineSegment) (no-reset : rst (p .flags) ≡
   numbers-syn i mine a-syn =
       let end : endBy i p ≡ p .start + p .length = if-true _ _ _ (counted i mine) in
       let win : windowBy i p ≡ p .window = if-true _ _ _ (counted i mine) in
-      let edge : edgeBy i p ≡ p .start + p .length = if-=-not _ _ no-reset ∙ if-= _ _ mine ∙ if-= _ _ a-syn in
+      let edge : edgeBy i p ≡ p .start + p .length = if-false _ _ _ (rw (ne-eqb (rst (p .flags)) 1 no-reset)) ∙ if-= _ _ mine ∙ if-= _ _ a-syn in
       one-more i ∙ λ k. record { end = ap (max (numbersOf i h .end)) end k; edge = ap (max (numbersOf i h .edge)) edge k; win = ap (max (numbersOf i h .win)) win k }
 
   -- the other end's, by an acknowledgement and without one
@@ -74,14 +74,14 @@ module _ (h : List LineSegment) (p : LineSegment) (no-reset : rst (p .flags) ≡
   numbers-acked i theirs acks =
       let end : max (numbersOf i h .end) (endBy i p) ≡ numbersOf i h .end = ap (max (numbersOf i h .end)) (if-false _ _ _ (uncounted i theirs)) ∙ omega arith in
       let win : max (numbersOf i h .win) (windowBy i p) ≡ numbersOf i h .win = ap (max (numbersOf i h .win)) (if-false _ _ _ (uncounted i theirs)) ∙ omega arith in
-      let edge : edgeBy i p ≡ p .acked + max (p .window) 1 = if-=-not _ _ no-reset ∙ if-=-not _ _ theirs ∙ if-= _ _ acks in
+      let edge : edgeBy i p ≡ p .acked + max (p .window) 1 = if-false _ _ _ (rw (ne-eqb (rst (p .flags)) 1 no-reset)) ∙ if-=-not _ _ theirs ∙ if-= _ _ acks in
       one-more i ∙ λ k. record { end = end k; edge = ap (max (numbersOf i h .edge)) edge k; win = win k }
 
   pub numbers-unacked : (i : ℕ) → (p .from ≡ i → ⊥) → (ack (p .flags) ≡ 1 → ⊥) → numbersOf i (p ∷ h) ≡ numbersOf i h
   numbers-unacked i theirs silent =
       let end : max (numbersOf i h .end) (endBy i p) ≡ numbersOf i h .end = ap (max (numbersOf i h .end)) (if-false _ _ _ (uncounted i theirs)) ∙ omega arith in
       let win : max (numbersOf i h .win) (windowBy i p) ≡ numbersOf i h .win = ap (max (numbersOf i h .win)) (if-false _ _ _ (uncounted i theirs)) ∙ omega arith in
-      let edge : max (numbersOf i h .edge) (edgeBy i p) ≡ numbersOf i h .edge = ap (max (numbersOf i h .edge)) (if-=-not _ _ no-reset ∙ if-=-not _ _ theirs ∙ if-=-not _ _ silent) ∙ omega arith in
+      let edge : max (numbersOf i h .edge) (edgeBy i p) ≡ numbersOf i h .edge = ap (max (numbersOf i h .edge)) (if-false _ _ _ (rw (ne-eqb (rst (p .flags)) 1 no-reset)) ∙ if-=-not _ _ theirs ∙ if-=-not _ _ silent) ∙ omega arith in
       one-more i ∙ λ k. record { end = end k; edge = edge k; win = win k }
 
 -- What is written, from what becomes of F and of T
@@ -225,14 +225,15 @@ module _ (h : List LineSegment) (p : LineSegment) (is-reset : rst (p .flags) ≡
   reset-numbers i =
       let none : ((p .from =ᵇ i) && (rst (p .flags) ≠ᵇ 1)) ≡ false = rw (eq-eqb (rst (p .flags)) 1 is-reset) (and-false (p .from =ᵇ i)) in
       let end : max (numbersOf i h .end) (endBy i p) ≡ numbersOf i h .end = ap (max (numbersOf i h .end)) (if-false _ _ _ none) ∙ omega arith in
-      let edge : max (numbersOf i h .edge) (edgeBy i p) ≡ numbersOf i h .edge = ap (max (numbersOf i h .edge)) (if-= _ _ is-reset) ∙ omega arith in
+      let edge : max (numbersOf i h .edge) (edgeBy i p) ≡ numbersOf i h .edge =
+      ap (max (numbersOf i h .edge)) (if-true _ _ _ (rw (eq-eqb (rst (p .flags)) 1 is-reset))) ∙ omega arith in
       let win : max (numbersOf i h .win) (windowBy i p) ≡ numbersOf i h .win = ap (max (numbersOf i h .win)) (if-false _ _ _ none) ∙ omega arith in
       λ k. record { end = end k; edge = edge k; win = win k }
 
   -- in stage 1 it frees
   pub reset-freed : stageOf h ≡ 1 → stageOf (p ∷ h) ≡ 0
   unfolding stageOf
-  reset-freed first = let below : stageOf h < 2 = omega arith in if-= _ _ is-reset ∙ if-≤-not _ _ below
+  reset-freed first = if-= _ _ is-reset ∙ rw first (if-≤-not {a = 2} {b = 1} 6 0 (omega arith))
 
   module _ (open-h : Answered h) where
     pub reset-stage : stageOf (p ∷ h) ≡ 6
@@ -259,9 +260,9 @@ module _ (h : List LineSegment) (p : LineSegment) (is-reset : rst (p .flags) ≡
     }
 
 -- what it leaves from stage 2 on
-pub passed-reset : (c : Connection) (i : ℕ) (g : Segment) (now : ℕ) → rst (g .flags) ≡ 1 → (c .stage ≡ 1 → ⊥) → passed c i g now ≡ reset c now
+pub passed-reset : (c : Connection) (i : ℕ) (g : Segment) (now : ℕ) → rst (g .flags) ≡ 1 → 2 ≤ c .stage → passed c i g now ≡ reset c now
 unfolding passed
-passed-reset c i g now is-reset later = if-= _ _ is-reset ∙ if-≠ _ _ later
+passed-reset c i g now is-reset later = if-= _ _ is-reset ∙ if-≤ _ _ later
 
 -- In stage 1
 

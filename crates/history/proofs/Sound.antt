@@ -162,7 +162,7 @@ module _ (clock : ℕ) (c : Connection) (x : ℕ → End) (ends : TwoEnds c x) (
         })
 
   -- a reset leaves the records as they are
-  reset-leaves-sound : (c .stage ≡ 1 → ⊥) → rst (p .flags) ≡ 1 → soundConnection now (passed c (p .from) (onWire p) now) ≡ true
+  reset-leaves-sound : 2 ≤ c .stage → rst (p .flags) ≡ 1 → soundConnection now (passed c (p .from) (onWire p) now) ≡ true
   unfolding reset soundUnanswered
   reset-leaves-sound later is-reset =
       let stage = reset-sound (c .fins) (soundFins≤3 (c .stage) (c .fins) (sound .fins)) in
@@ -223,7 +223,7 @@ module _ (clock : ℕ) (c : Connection) (x : ℕ → End) (ends : TwoEnds c x) (
 
   by-stage :
       Near (lifted (x (p .from)) .end) (p .start) → Near (lifted (x (1 - p .from)) .end) (p .acked) →
-      (c .stage ≡ 1 → rst (p .flags) ≡ 1 → ⊥) →
+      (rst (p .flags) ≡ 1 → 2 ≤ c .stage) →
       soundConnection now (passed c (p .from) (onWire p) now) ≡ true
   by-stage start acked kept = cases (eqb (c .stage) 1) refl
     where
@@ -231,18 +231,21 @@ module _ (clock : ℕ) (c : Connection) (x : ℕ → End) (ends : TwoEnds c x) (
       by-reset :
           (c .stage ≡ 1 → ⊥) → (t : Bool) → eqb (rst (p .flags)) 1 ≡ t →
           soundConnection now (passed c (p .from) (onWire p) now) ≡ true
-      by-reset later true e = reset-leaves-sound later (eqb-true _ _ e)
+      by-reset later true e = let is-reset = eqb-true _ _ e in reset-leaves-sound (kept is-reset) is-reset
       by-reset later false e = carried-sound later start acked (eqb-false _ _ e)
 
       -- in stage 1
+      no-reset : c .stage ≡ 1 → rst (p .flags) ≡ 1 → ⊥
+      no-reset first is-reset = omega (arith, kept is-reset)
+
       by-sender :
           (first : c .stage ≡ 1) (t : Bool) → eqb (p .from) 0 ≡ t →
           soundConnection now (passed c (p .from) (onWire p) now) ≡ true
-      by-sender first true e = repeated-sound first (kept first) (eqb-true (p .from) 0 e)
+      by-sender first true e = repeated-sound first (no-reset first) (eqb-true (p .from) 0 e)
       by-sender first false e =
           let answerer : p .from ≡ 1 = omega (arith, eqb-false (p .from) 0 e) in
           let none : 1 - p .from ≡ 0 = omega arith in
-          answered-sound first (kept first) answerer (rw none at acked)
+          answered-sound first (no-reset first) answerer (rw none at acked)
 
       cases : (t : Bool) → eqb (c .stage) 1 ≡ t → soundConnection now (passed c (p .from) (onWire p) now) ≡ true
       cases false e = by-reset (eqb-false (c .stage) 1 e) (eqb (rst (p .flags)) 1) refl

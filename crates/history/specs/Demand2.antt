@@ -61,11 +61,11 @@ historyAfter h [] = h
 historyAfter h (o ∷ l) =
     if isPass (judgedOver (historyAfter h l) o) then onLine (historyAfter h l) o ∷ historyAfter h l else historyAfter h l
 
--- none that passed was a reset in stage 1, which frees
+-- none freed it: each reset that passed did so from stage 2 on
 unfoldable pub NoneFreed : List LineSegment → List Presented → Type 0
 NoneFreed h [] = Unit {0}
 NoneFreed h (o ∷ l) =
-    NoneFreed h l × (judgedOver (historyAfter h l) o ≡ Pass → stageOf (historyAfter h l) ≡ 1 → rst (o .segment .flags) ≡ 1 → ⊥)
+    NoneFreed h l × (judgedOver (historyAfter h l) o ≡ Pass → rst (o .segment .flags) ≡ 1 → 2 ≤ stageOf (historyAfter h l))
 
 -- the history of an opening SYN alone
 abbrev pub openingHistory : Segment → List LineSegment

@@ -5,14 +5,13 @@ use mathlib.Core.Bool.{Bool, true, false}
 use mathlib.Core.List.{List, _∷_}
 use native.Mathlib.Omega.{arith}
 use lib.Dec.{eqb}
-use borrow.Author.Tests.{eqb-true, eqb-false, not-false}
-use Rattle.choice.specs.Choice.{_≠ᵇ_}
-use Rattle.choice.proofs.Choice.{if-either, if-cases}
+use borrow.Author.Tests.{eqb-true, eqb-false}
+use Rattle.choice.proofs.Choice.{if-either, if-cases, if-≤}
 use Rattle.segment.specs.Flags.{rst, isReset, ack}
 use Rattle.segment.specs.declared.Segment.{Segment}
 use Rattle.connection.specs.Ranges.{ackRange}
 use Rattle.connection.specs.Stages.{lifeOf, finsAfter}
-use Rattle.connection.specs.Decision.{verdictOn, passed, opened, carried, repeated, answered, reset}
+use Rattle.connection.specs.Decision.{verdictOn, free, passed, opened, carried, repeated, answered, reset}
 use Rattle.connection.specs.declared.Connection.{Connection}
 use Rattle.connection.specs.declared.Verdict.the-variants.{Pass}
 use Rattle.connection.proofs.Stages.{1≤lifeOf, stageAfter≥2, stageAfter≤5}
@@ -44,7 +43,7 @@ unfolding reset
 reset-renewed c now = record { side = refl; deadline = refl; life = 1≤lifeOf 6 (omega arith) (omega arith) }
 
 pub passed-renewed :
-    (c : Connection) (i : ℕ) (g : Segment) (now : ℕ) → (c .stage ≡ 1 → rst (g .flags) ≡ 1 → ⊥) →
+    (c : Connection) (i : ℕ) (g : Segment) (now : ℕ) → (rst (g .flags) ≡ 1 → 2 ≤ c .stage) →
     Renewed c now (passed c i g now)
 unfolding passed carried repeated answered
 passed-renewed c i g now kept =
@@ -52,9 +51,7 @@ passed-renewed c i g now kept =
     let known = stageAfter≥2 (c .stage) fins i (g .flags) in
     let most = stageAfter≤5 (c .stage) fins i (g .flags) in
     if-cases (Renewed c now) (isReset (g .flags)) _ _
-    (λ is-reset. if-cases (Renewed c now) (c .stage ≠ᵇ 1) _ _
-    (λ _. reset-renewed c now)
-    (λ first. absurd (kept (eqb-true _ _ (not-false _ first)) (eqb-true _ _ is-reset))))
+    (λ is-reset. rw (if-≤ {a = 2} {b = c .stage} (reset c now) free (kept (eqb-true _ _ is-reset))) (reset-renewed c now))
     (λ _. if-either (Renewed c now) _ _ _
     record { side = refl; deadline = refl; life = 1≤lifeOf _ (omega (arith, known)) (omega (arith, most)) }
     (if-either (Renewed c now) _ _ _

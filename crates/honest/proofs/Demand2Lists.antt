@@ -107,17 +107,25 @@ module _
   verdict-same : verdictOn c i g ≡ judge h (placed h i g)
   verdict-same = judged c h holds reached (record { sender = i; segment = g; now = 0 }) record { sender-known = known; placeable = placeable }
 
-  passed-stands : (now : ℕ) → verdictOn c i g ≡ Pass → (c .stage ≡ 1 → rst (g .flags) ≡ 1 → ⊥) → Stands (after-c now) (after-h now)
+  passed-stands : (now : ℕ) → verdictOn c i g ≡ Pass → (rst (g .flags) ≡ 1 → 2 ≤ c .stage) → Stands (after-c now) (after-h now)
   passed-stands now passes kept =
       let after =
       pass-holds c h holds reached (record { sender = i; segment = g; now = now }) record { sender-known = known; placeable = placeable }
-      (λ first. kept (holds .stage ∙ first)) (sym verdict-same ∙ passes) in
+      (λ is-reset. omega (arith, kept is-reset, holds .stage)) (sym verdict-same ∙ passes) in
       let renewed = passed-renewed c i g now kept in
       let side = renewed .side ∙ ap (λ (x : Entry connections). x .connection .side) (r .is) in
       let deadline = renewed .deadline ∙ ap (λ (s : ℕ). now + lifeOf s) (after .0 .stage) in
       subst (λ (k : Flow). Stands (record { key = k; connection = passed c i g now }) (after-h now))
       (sym (ap (λ (x : Entry connections). x .key) (r .is)))
       (stands-by (f .key) _ _ side deadline (after .0) (after .1))
+
+  -- not in stage 1, so in a later one
+  from-2 : (c .stage ≡ 1 → ⊥) → 2 ≤ c .stage
+  from-2 later = go reached
+    where
+      go : Reached h → 2 ≤ c .stage
+      go (unanswered u turned) = absurd (later (holds .stage ∙ u .stage))
+      go (answered a turned) = omega (arith, holds .stage, a .stage)
 
   -- a pass frees both or neither
   stage-same : (now : ℕ) → verdictOn c i g ≡ Pass → passed c i g now .stage ≡ stageOf (placed h i g ∷ h)
@@ -133,16 +141,16 @@ module _
           let is-reset = eqb-true _ _ (f .1) in
           ap (λ (x : Connection). x .stage) (reset-frees c i g now first is-reset) ∙ sym (reset-freed h (placed h i g) is-reset (sym (holds .stage) ∙ first))
       go (inr not) =
-          let kept : c .stage ≡ 1 → rst (g .flags) ≡ 1 → ⊥ = λ (first : c .stage ≡ 1) (is-reset : rst (g .flags) ≡ 1).
-          false-true (sym not ∙ true-&& _ _ (eq-eqb _ _ first) (eq-eqb _ _ is-reset)) in
+          let kept : rst (g .flags) ≡ 1 → 2 ≤ c .stage = λ (is-reset : rst (g .flags) ≡ 1).
+          from-2 (λ (first : c .stage ≡ 1). false-true (sym not ∙ true-&& _ _ (eq-eqb _ _ first) (eq-eqb _ _ is-reset))) in
           ap (λ (x : Entry connections). x .connection .stage) (passed-stands now passes kept .is)
 
   after-stands : (now : ℕ) → verdictOn c i g ≡ Pass → Stands (entryAfter connections e i g now) (entryAfter histories f i g now)
   unfolding entryWith
   after-stands now passes =
       if-both Stands _ _ _ _ _ _ (ap (λ (n : ℕ). n =ᵇ 0) (stage-same now passes)) (λ _. free-stands)
-      (λ in-use. passed-stands now passes (λ first is-reset.
-      eqb-false _ _ in-use (ap (λ (x : Connection). x .stage) (reset-frees c i g now first is-reset))))
+      (λ in-use. passed-stands now passes (λ is-reset. from-2 (λ (first : c .stage ≡ 1).
+      eqb-false _ _ in-use (ap (λ (x : Connection). x .stage) (reset-frees c i g now first is-reset)))))
 
 entries-agree : Agreeing Stands Placeable
 entries-agree = record {

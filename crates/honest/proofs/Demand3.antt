@@ -302,7 +302,7 @@ module _ (M : Machine) (Sound : M .State → Type 0) (keeps : KeepsTo M Sound) (
               }
           go (both a2 begun) =
               let now : ℕ = used a in
-              let later : c .stage ≡ 1 → ⊥ = λ (first : c .stage ≡ 1). omega (arith, al .holds .stage, a2 .stage) in
+              let later : 2 ≤ c .stage = omega (arith, al .holds .stage, a2 .stage) in
               let left = reset-on-ours P known v sound-before (al .place) c a (al .ours) answer-0 at-ours is-reset later in
               let renewed : Renewed c now (reset c now) = reset-renewed c now in
               let table = keeps .view-by-rows (t .state) q a (kept .sound) read ∙ ap (after connections v) left in
@@ -351,7 +351,7 @@ module _ (M : Machine) (Sound : M .State → Type 0) (keeps : KeepsTo M Sound) (
       filter-passes =
           let now : ℕ = used a in
           let found = arrival-found P known v sound-before (al .place) (p .from) c a (al .ours) (al .others) asked-p (live-now c al a read live) in
-          let in-use = passed-renewed c (p .from) (onWire p) now (λ _. no-reset) .life in
+          let in-use = passed-renewed c (p .from) (onWire p) now (λ is. absurd (no-reset is)) .life in
           let sender : senderOf connections (ours P c) (a .side) ≡ p .from = found .1 in
           onSegment-by-search connections v now (a .side) (a .key) (a .segment) _ (found .0)
           ∙ ap (λ (e : Entry connections). onEntry connections e (al .place) now (a .side) (a .segment)) (al .ours .there)
@@ -373,7 +373,7 @@ module _ (M : Machine) (Sound : M .State → Type 0) (keeps : KeepsTo M Sound) (
           Table-kept (afterSegment M t q (t .place) p)
       arrival-kept holds-after heard-after =
           let c' : Connection = passed c (p .from) (onWire p) (used a) in
-          let renewed = passed-renewed c (p .from) (onWire p) (used a) (λ _. no-reset) in
+          let renewed = passed-renewed c (p .from) (onWire p) (used a) (λ is. absurd (no-reset is)) in
           let table = keeps .view-by-rows (t .state) q a (kept .sound) read ∙ ap (after connections v) filter-passes in
           let side = renewed .side ∙ al .ours .our-side in
           let r = pass-on-ours P known v sound-before (al .place) c c' (used a) (al .ours) (al .others) (omega arith) side in

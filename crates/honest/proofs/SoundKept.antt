@@ -8,6 +8,7 @@ use native.Mathlib.Omega.{arith}
 use borrow.Author.Tests.{eqb-false}
 use Rattle.choice.specs.Choice.{_=ᵇ_}
 use Rattle.choice.proofs.Choice.{if-either, if-cases}
+use Rattle.choice.proofs.Tests.{lt-or-ge}
 use Rattle.serial.specs.Ring.{ringPlus}
 use Rattle.serial.specs.Serial.{further}
 use Rattle.serial.specs.declared.SeqNum.{SeqNum}
@@ -22,7 +23,7 @@ use Rattle.connection.specs.Sound.{soundConnection}
 use Rattle.connection.specs.declared.Connection.{Connection}
 use Rattle.connection.specs.declared.End.{End}
 use Rattle.connection.specs.declared.Verdict.the-variants.{Pass}
-use Rattle.connection.proofs.Sound.{later-sound}
+use Rattle.connection.proofs.Sound.{sound-facts, later-sound}
 use Rattle.rows.specs.Rows.{Ask, Entry, View, Outcome, Blocked, Passed, freeEntry, entryWith, entryAfter, openingEntry, clockUsed, filter, after}
 use Rattle.rows.specs.Connections.{connections}
 use Rattle.rows.proofs.Rows.{sender-known, Comes, blocks, passes, makes, comes}
@@ -165,9 +166,13 @@ module _ (v : View connections) (a : Ask) where
       not-free =
           ⊎-elim (λ free. absurd (omega (arith, ap (λ (f : Entry connections). f .connection .deadline) free))) (λ sound. sound) (s .sound)
 
-      kept : passed (e .connection) i g now .stage =ᵇ 0 ≡ false → e .connection .stage ≡ 1 → rst (g .flags) ≡ 1 → ⊥
-      kept in-use first is-reset =
-          eqb-false _ _ in-use (ap (λ (c : Connection). c .stage) (reset-frees (e .connection) i g now first is-reset))
+      kept : passed (e .connection) i g now .stage =ᵇ 0 ≡ false → rst (g .flags) ≡ 1 → 2 ≤ e .connection .stage
+      kept in-use is-reset =
+          ⊎-elim
+          (λ (first : e .connection .stage < 2).
+          absurd (eqb-false _ _ in-use (ap (λ (c : Connection). c .stage) (reset-frees (e .connection) i g now (omega (arith, sound-facts (v .clock) (e .connection) not-free .stage-some)) is-reset))))
+          (λ (later : 2 ≤ e .connection .stage). later)
+          (lt-or-ge (e .connection .stage) 2)
 
   -- what a pass leaves: at a place of the view, by the clock used, an entry that is free or sound, with addresses and ports of a free
   -- entry, of the call or of the entry that was there

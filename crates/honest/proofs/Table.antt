@@ -270,7 +270,7 @@ module _ (P : Pair) where
         (p : ℕ) (c : Connection) (a : Ask) → OurEntry v p c → answerOf connections (filter connections v a) ≡ 0 →
         ((q : ℕ) → rows.search connections v (used a) (a .side) (a .key) ≡ At q → (now : ℕ) (e : Entry connections) →
         filter connections v a ≡ Passed q now e → q ≡ p) →
-        rst (a .segment .flags) ≡ 1 → (c .stage ≡ 1 → ⊥) →
+        rst (a .segment .flags) ≡ 1 → 2 ≤ c .stage →
         filter connections v a ≡ Passed p (used a) (ours (reset c (used a)))
     reset-on-ours p c a o passed-0 at-ours is-reset later = go (comes connections v (used a) (a .side) (a .key) (a .segment))
       where

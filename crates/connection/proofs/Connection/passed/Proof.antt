@@ -1,6 +1,6 @@
 use mathlib.Core.Path.{_≡_, sym, _∙_}
 use mathlib.Core.Bool.{true, false}
-use Rattle.choice.proofs.Choice.{if-true, if-false, if-=, if-=-not, if-≠, if-≠-not}
+use Rattle.choice.proofs.Choice.{if-true, if-false, if-=, if-=-not, if-≠, if-≠-not, if-≤, if-≤-not}
 use Rattle.segment.specs.Flags.{isReset}
 use Rattle.connection.specs.Decision.{passed}
 use borrow.Author.Needs.{needs}
@@ -26,13 +26,13 @@ returns : tie.Need-returns
 unfolding passed
 returns c =
     let k = c .before in
-    c .no-connection .ensures ∙ sym (if-true _ _ _ (is-reset (k .before)) ∙ if-≠-not _ _ (k .match .keys1))
+    c .no-connection .ensures ∙ sym (if-true _ _ _ (is-reset (k .before)) ∙ if-≤-not _ _ (k .if2 .taken))
 
 returns-2 : tie.Need-returns-2
 unfolding passed
 returns-2 c =
     let k = c .before in
-    c .reset .ensures ∙ sym (if-true _ _ _ (is-reset (k .before)) ∙ if-≠ _ _ (k .match .rest .1))
+    c .reset .ensures ∙ sym (if-true _ _ _ (is-reset (k .before)) ∙ if-≤ _ _ (k .if2 .left))
 
 repeated-requires : tie.Need-repeated-requires
 repeated-requires c κs = search needs
@@ -48,20 +48,20 @@ unfolding passed
 returns-3 c =
     let k = c .before in
     let m = k .before in
-    c .repeated .ensures ∙ sym (if-false _ _ _ (no-reset (m .before)) ∙ if-≠-not _ _ (m .match2 .keys1) ∙ if-= _ _ (k .match3 .keys1))
+    c .repeated .ensures ∙ sym (if-false _ _ _ (no-reset (m .before)) ∙ if-≠-not _ _ (m .match .keys1) ∙ if-= _ _ (k .match2 .keys1))
 
 returns-4 : tie.Need-returns-4
 unfolding passed
 returns-4 c =
     let k = c .before in
     let m = k .before in
-    c .answered .ensures ∙ sym (if-false _ _ _ (no-reset (m .before)) ∙ if-≠-not _ _ (m .match2 .keys1) ∙ if-=-not _ _ (k .match3 .rest .1))
+    c .answered .ensures ∙ sym (if-false _ _ _ (no-reset (m .before)) ∙ if-≠-not _ _ (m .match .keys1) ∙ if-=-not _ _ (k .match2 .rest .1))
 
 returns-5 : tie.Need-returns-5
 unfolding passed
 returns-5 c =
     let k = c .before in
-    c .carried .ensures ∙ sym (if-false _ _ _ (no-reset (k .before)) ∙ if-≠ _ _ (k .match2 .rest .1))
+    c .carried .ensures ∙ sym (if-false _ _ _ (no-reset (k .before)) ∙ if-≠ _ _ (k .match .rest .1))
 
 pub passed-spec : {M : Type 1} → statement M
 passed-spec =
