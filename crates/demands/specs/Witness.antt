@@ -7,11 +7,16 @@ use Rattle.octets.proofs.Octets.{octets-octetsOf, octets-overwrite}
 use Rattle.honest.specs.Rules.{Event}
 use Rattle.honest.specs.Carries.{withCall, withOther}
 use Rattle.honest.specs.Witness.{o, a, brings, witness}
+use Rattle.honest.specs.AsWritten.{aborted}
 use Rattle.demands.specs.Bytes.{BytesCall}
 use Rattle.demands.specs.Packets.{bytesCall}
 
 abbrev pub madeWitness : List (Event BytesCall)
 madeWitness = map (withCall (λ b. bytesCall (b .0))) witness
+
+-- and the list that is legal in document 02's own words
+abbrev pub bytesAborted : List (Event BytesCall)
+bytesAborted = map (withCall (λ b. bytesCall (b .0))) aborted
 
 -- a call with n bytes of its packet, from one on, made the octets of v
 abbrev pub spoilt : (from n v : ℕ) → BytesCall → BytesCall
@@ -35,7 +40,7 @@ fragment = spoilt 6 3 0x200020 (bytesCall (brings 281900 (o 6) .0))
 abbrev pub wrongWindow : BytesCall
 wrongWindow = spoilt 34 2 0xffff (bytesCall (brings 281050 (a 2) .0))
 
--- each right before the arrival of the packet that it was made from: 44 of the witness's events come after the fragment, 55 after the wrong window, 56
+-- each right before the arrival of the packet that it was made from: 45 of the witness's events come after the fragment, 56 after the wrong window, 57
 -- after the wrong header sum
 abbrev pub bytesWitness : List (Event BytesCall)
-bytesWitness = withOther 44 fragment (withOther 55 wrongWindow (withOther 56 wrongHeaderSum madeWitness))
+bytesWitness = withOther 45 fragment (withOther 56 wrongWindow (withOther 57 wrongHeaderSum madeWitness))

@@ -1,4 +1,4 @@
--- Document 02's own words of demand 3 ask for more than its lists need, so they follow.
+-- Demand 3 in document 02's own words follows: they ask for more.
 use mathlib.Core.List.{List, [], _∷_}
 use native.Mathlib.Omega.{arith}
 use Rattle.honest.specs.Machine.{Machine, KeepsTo}

@@ -316,13 +316,13 @@ module _ (M : Machine) (Sound : M .State → Type 0) (keeps : KeepsTo M Sound) (
 
     foreign-reset :
         OnOurs M t q → bringsReset (M .reads q) ≡ true → Phase t → (r : Reading Ask) → M .reads q ≡ r →
-        Table-kept (afterSegment M t q (t .place) (someReset M))
+        Table-kept (afterSegment M t q (t .place) someReset)
     foreign-reset on brings (before closed none) r is = false-true (sym closed ∙ on .after-opening)
     foreign-reset on brings (dead opened-t late) r is = absurd (omega (arith, late, on .live))
     foreign-reset on brings (alive opened-t c al) (refused n place) is = false-true (sym (ap asksHere is) ∙ on .here)
     foreign-reset on brings (alive opened-t c al) apart is = false-true (sym (ap asksHere is) ∙ on .here)
     foreign-reset on brings (alive opened-t c al) (asks a) is =
-        reset-kept (someReset M) a is (on .answered-0) c al (eqb-true _ _ (sym (ap bringsReset is) ∙ brings)) refl
+        reset-kept someReset a is (on .answered-0) c al (eqb-true _ _ (sym (ap bringsReset is) ∙ brings)) refl
         (λ r found now entry passed-there.
         keeps .numbers-differ r (al .place)
         (sym (ap (placeBy (M .number)) passed-there) ∙ sym (keeps .place-by-rows (t .state) q a (kept .sound) is) ∙ on .place ∙ sym (al .numbered)))
@@ -398,7 +398,7 @@ module _ (M : Machine) (Sound : M .State → Type 0) (keeps : KeepsTo M Sound) (
       in-more p g (told M s₀ L .history) (passes M (told M s₀ L) q) (⊎-elim (λ new. inl (new .0 .1, new .1)) (λ old. inr (passed-in k p L old)) was)
   passed-in k p (call q other ∷ L) was =
       let old = passed-in k p L (⊎-elim (λ never. absurd (never .0)) (λ old. old) was) in
-      if-either (λ (t : Told M). In p (t .history)) _ _ _ (in-more p (someReset M) (told M s₀ L .history) (passes M (told M s₀ L) q) (inr old)) old
+      if-either (λ (t : Told M). In p (t .history)) _ _ _ (in-more p someReset (told M s₀ L .history) (passes M (told M s₀ L) q) (inr old)) old
   passed-in k p (delivery j g ∷ L) was = passed-in k p L was
 
   start : Sound s₀ → Inv []
@@ -451,8 +451,8 @@ module _ (M : Machine) (Sound : M .State → Type 0) (keeps : KeepsTo M Sound) (
         (passedOnOurs M (told M s₀ L) q && bringsReset (M .reads q)) _ _
         (λ resets.
         let on = on-ours-facts M (told M s₀ L) q (&&-true (passedOnOurs M (told M s₀ L) q) (bringsReset (M .reads q)) resets .0) in
-        rw (if-true (passes M (told M s₀ L) q) (someReset M ∷ told M s₀ L .history) (told M s₀ L .history) (on .answered-0))
-        (none-arrived _ q L (protocol-reset P (told M s₀ L .history) (λ j g. Arrived j g L) L (inv .protocol) q other (someReset M) refl)))
+        rw (if-true (passes M (told M s₀ L) q) (someReset ∷ told M s₀ L .history) (told M s₀ L .history) (on .answered-0))
+        (none-arrived _ q L (protocol-reset P (told M s₀ L .history) (λ j g. Arrived j g L) L (inv .protocol) q other someReset refl)))
         (λ _. none-arrived _ q L (protocol-called P (told M s₀ L .history) (λ j g. Arrived j g L) L (inv .protocol) q other));
   }
 

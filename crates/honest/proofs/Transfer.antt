@@ -15,10 +15,10 @@ use Rattle.rows.specs.Rows.{View}
 use Rattle.rows.specs.Connections.{connections}
 use Rattle.history.specs.History.{LineSegment, stageOf}
 use Rattle.honest.specs.Machine.{refused, asks, Machine, clockIn, asksHere, bringsReset, KeepsTo}
-use Rattle.honest.specs.Rules.{Label, opening, arrival, other, Event, send, call, delivery, Pair, sentBy, Sent, Arrived, receivedBy, hasAnswer, Allowed, openers-syn, answerers-syn-ack, later, any-reset}
-use Rattle.honest.specs.Honest.{Told, passes, nextClock, afterSegment, passedOnOurs, someReset, afterElsewhere, afterCall, told, said, WasPassed, Arrives, FairCall, Legal}
+use Rattle.honest.specs.Rules.{Label, opening, arrival, other, Event, send, call, delivery, Pair, sentBy, Sent, Arrived, receivedBy, hasAnswer, Allowed, Honest, openers-syn, answerers-syn-ack, later, any-reset}
+use Rattle.honest.specs.Honest.{Told, passes, nextClock, afterSegment, passedOnOurs, someReset, afterElsewhere, afterCall, told, said, Live, WasPassed, Arrives, Opening, FairCall, Legal, ArrivalAsWritten, LegalAsWritten}
 use Rattle.honest.specs.Instance.{ViewCall, viewMachine}
-use Rattle.honest.specs.Carries.{Carries, none, sent, called, refused-alone, delivered, LegalCarried, withCall, withOther, readings, ifAsked, othersSaid, summaryOf, SummaryCarried}
+use Rattle.honest.specs.Carries.{Carries, none, sent, called, refused-alone, delivered, LegalCarried, LegalAsWrittenCarried, withCall, withOther, readings, ifAsked, othersSaid, summaryOf, SummaryCarried}
 use Rattle.honest.proofs.Demand3.{on-ours-facts}
 
 -- What ends have sent and received, and what has arrived
@@ -172,7 +172,7 @@ module _ (M : Machine) (Sound : M .State → Type 0) (keeps : KeepsTo M Sound) (
     same-after (opening k p) = same-segment _ _ p (keeps .place-by-rows (t .state) q (b .0) kept is)
     same-after (arrival k p) = same-segment _ _ p refl
     same-after other =
-        (λ i. if same-ours i && bringsReset (sym is i) then same-segment (t .place) (t .place) (someReset M) refl i else same-elsewhere i)
+        (λ i. if same-ours i && bringsReset (sym is i) then same-segment (t .place) (t .place) someReset refl i else same-elsewhere i)
         ∙ sym (if-ap viewed _ _ _)
 
   -- a refused call is blocked and tells nothing
@@ -238,6 +238,9 @@ module _ (M : Machine) (Sound : M .State → Type 0) (keeps : KeepsTo M Sound) (
     clock-same : told M s₀ L .passClock ≡ told F t₀ N .passClock
     clock-same = ap (λ (t : Told F). t .passClock) (sym (told-same c))
 
+    history-same : told M s₀ L .history ≡ told F t₀ N .history
+    history-same = ap (λ (t : Told F). t .history) (sym (told-same c))
+
     until-same : told M s₀ L .until ≡ told F t₀ N .until
     until-same = ap (λ (t : Told F). t .until) (sym (told-same c))
 
@@ -258,9 +261,9 @@ module _ (M : Machine) (Sound : M .State → Type 0) (keeps : KeepsTo M Sound) (
       arrives-carried : (P : Pair) (k : ℕ) (p : LineSegment) → Arrives F P k p b N → Arrives M P k p q L
       arrives-carried P k p a = record { sent = sent-carried M k p c (a .sent); clock = a .clock; brings = is ∙ a .brings }
 
-      fair-call-carried : (P : Pair) (l : Label) → FairCall F t₀ P l b N → FairCall M s₀ P l q L
+      opening-carried : (P : Pair) (k : ℕ) (p : LineSegment) → Opening F t₀ P k p b N → Opening M s₀ P k p q L
       unfolding arrives-carried
-      fair-call-carried P (opening k p) o = record {
+      opening-carried P k p o = record {
         first-one = opened-same ∙ o .first-one;
         arrives = arrives-carried P k p (o .arrives);
         by-opener = o .by-opener;
@@ -268,15 +271,32 @@ module _ (M : Machine) (Sound : M .State → Type 0) (keeps : KeepsTo M Sound) (
         finds-none = rw view-same (o .finds-none);
         answered-0 = passes-same ∙ o .answered-0;
       }
+
+      live-carried : Live F (told F t₀ N) b → Live M (told M s₀ L) q
+      live-carried live = omega (arith, live, clock-given, clock-same, until-same)
+
+      ours-carried : passedOnOurs M (told M s₀ L) q ≡ true → passedOnOurs F (told F t₀ N) b ≡ true
+      ours-carried ours-is = ap (λ (t : Told F). passedOnOurs F t b) (told-same c) ∙ same-ours (told M s₀ L) (told-sound c) q b is ∙ ours-is
+
+      written-arrival-carried : (P : Pair) (k : ℕ) (p : LineSegment) → ArrivalAsWritten F t₀ P k p b N → ArrivalAsWritten M s₀ P k p q L
+      written-arrival-carried P k p r = record {
+        after-opening = opened-same ∙ r .after-opening;
+        arrives = arrives-carried P k p (r .arrives);
+        in-order = λ j g was. r .in-order j g (arrived-carries M j g c was);
+        live = live-carried (r .live);
+        reset-passes = λ reset. passes-same ∙ r .reset-passes reset;
+      }
+
+      fair-call-carried : (P : Pair) (l : Label) → FairCall F t₀ P l b N → FairCall M s₀ P l q L
+      fair-call-carried P (opening k p) o = opening-carried P k p o
       fair-call-carried P (arrival k p) r = record {
         after-opening = opened-same ∙ r .after-opening;
         arrives = arrives-carried P k p (r .arrives);
         in-order = λ none j g was. r .in-order none j g (arrived-carries M j g c was);
-        live = omega (arith, r .live, clock-given, clock-same, until-same);
+        live = live-carried (r .live);
         reset-passes = λ reset. passes-same ∙ r .reset-passes reset;
       }
-      fair-call-carried P other fair = λ ours-is.
-          ap bringsReset is ∙ fair (ap (λ (t : Told F). passedOnOurs F t b) (told-same c) ∙ same-ours (told M s₀ L) (told-sound c) q b is ∙ ours-is)
+      fair-call-carried P other fair = λ ours-is. ap bringsReset is ∙ fair (ours-carried ours-is)
 
   passed-carried : (k : ℕ) (p : LineSegment) {L : Carrying M} {N : Carried M} → Carries M L N → WasPassed F t₀ k p N → WasPassed M s₀ k p L
   passed-carried k p none was = was
@@ -296,6 +316,18 @@ module _ (M : Machine) (Sound : M .State → Type 0) (keeps : KeepsTo M Sound) (
       (λ ours-is. false-true (sym (ap asksHere is) ∙ on-ours-facts M (told M s₀ L) q ours-is .here), legal-along P c legal)
   legal-along P (delivered {k = k} {p = p} c) legal = (passed-carried k p c (legal .0), legal-along P c (legal .1))
 
+  written-along : (P : Pair) {L : Carrying M} {N : Carried M} → Carries M L N → LegalAsWritten F t₀ P N → LegalAsWritten M s₀ P L
+  written-along P none legal = tt
+  written-along P (sent {p = p} c) legal =
+      let honest : Honest P p _ = record { allowed = allowed-carried M P p c (legal .0 .0 .allowed); formed = legal .0 .0 .formed } in
+      ((honest, λ reset. rw (history-same c) (legal .0 .1 reset)), written-along P c (legal .1))
+  written-along P (called {q = q} {b = b} {l = opening k p} is c) legal = (opening-carried c q b is P k p (legal .0), written-along P c (legal .1))
+  written-along P (called {q = q} {b = b} {l = arrival k p} is c) legal = (written-arrival-carried c q b is P k p (legal .0), written-along P c (legal .1))
+  written-along P (called {q = q} {b = b} {l = other} is c) legal = (λ ours-is. legal .0 (ours-carried c q b is ours-is), written-along P c (legal .1))
+  written-along P (refused-alone {q = q} {L = L} is c) legal =
+      (λ ours-is. false-true (sym (ap asksHere is) ∙ on-ours-facts M (told M s₀ L) q ours-is .here), written-along P c legal)
+  written-along P (delivered {k = k} {p = p} c) legal = (passed-carried k p c (legal .0), written-along P c (legal .1))
+
   others-same : {L : Carrying M} {N : Carried M} → Carries M L N → othersSaid M s₀ L ≡ othersSaid F t₀ N
   others-same none = refl
   others-same (sent c) = others-same c
@@ -310,6 +342,9 @@ module _ (M : Machine) (Sound : M .State → Type 0) (keeps : KeepsTo M Sound) (
 
 pub legal-carried : (M : Machine) (Sound : M .State → Type 0) → KeepsTo M Sound → LegalCarried M Sound
 legal-carried M Sound keeps s₀ sound P L N carries legal = legal-along M Sound keeps s₀ sound P carries legal
+
+pub legal-as-written-carried : (M : Machine) (Sound : M .State → Type 0) → KeepsTo M Sound → LegalAsWrittenCarried M Sound
+legal-as-written-carried M Sound keeps s₀ sound P L N carries legal = written-along M Sound keeps s₀ sound P carries legal
 
 pub summary-carried : (M : Machine) (Sound : M .State → Type 0) → KeepsTo M Sound → SummaryCarried M Sound
 summary-carried M Sound keeps s₀ sound L N carries = summary-along M Sound keeps s₀ sound carries

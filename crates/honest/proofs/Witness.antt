@@ -21,14 +21,14 @@ use Rattle.honest.specs.Carries.{summaryOf}
 use Rattle.honest.specs.Marked.{empty}
 use Rattle.honest.specs.Witness.{pair, witness, comesTo}
 use Rattle.honest.specs.Needed.{one}
-use Rattle.honest.specs.Written.{written}
+use Rattle.honest.specs.AsWritten.{aborted}
 use Rattle.honest.proofs.Instance.{demand3-view, fresh-sound}
 use Rattle.honest.proofs.Check.{legal?, legal?-sound, checkedAsWritten}
 
 computed :
     (legal? empty pair witness ≡ true)
     × (summaryOf (viewMachine (λ p. p)) empty witness ≡ comesTo)
-    × (checkedAsWritten one pair written .holds ≡ true)
+    × (checkedAsWritten one pair aborted .holds ≡ true)
 unfolding if_then_else_ wrap ringPlus ringMinus nearest further sent granted endsAfter sequenceMet ackMet lifeOf withFin finsAfter openStage stageAfter sameSyn reply verdictUnanswered verdictByRanges verdictOn opened repeated answered carried reset passed finsOf stageOf firstFrom fromOpener fromAnswerer liveMatch vacant senderOf entryWith onEntry openingEntry unmatched onSegment sameFlow sentBy receivedBy highest some passes passedOnOurs afterCall told Rules.hasAnswer
 computed = (refl, refl, refl)
 
@@ -42,5 +42,5 @@ pub witness-shows : summaryOf (viewMachine (λ p. p)) empty witness ≡ comesTo
 witness-shows = computed .1
 
 -- the list in document 02's own words
-pub written-list-legal : LegalAsWritten (viewMachine (λ p. p)) one pair written
-written-list-legal = checkedAsWritten one pair written .shows (computed .2)
+pub aborted-legal : LegalAsWritten (viewMachine (λ p. p)) one pair aborted
+aborted-legal = checkedAsWritten one pair aborted .shows (computed .2)

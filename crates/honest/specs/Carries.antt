@@ -8,7 +8,7 @@ use Rattle.rows.specs.Rows.{Ask}
 use Rattle.history.specs.History.{LineSegment, stageOf}
 use Rattle.honest.specs.Machine.{Reading, refused, asks, apart, Machine}
 use Rattle.honest.specs.Rules.{Label, opening, arrival, other, Event, send, call, delivery, Pair}
-use Rattle.honest.specs.Honest.{told, said, Legal}
+use Rattle.honest.specs.Honest.{told, said, Legal, LegalAsWritten}
 use Rattle.honest.specs.Instance.{ViewCall, viewMachine}
 
 -- the same sendings, deliveries and labels, and each call asks what the rows' asks, or is refused and stands for none
@@ -86,6 +86,12 @@ module _ (M : Machine) (Sound : M .State → Type 0) where
   LegalCarried =
       (s₀ : M .State) → Sound s₀ → (P : Pair) → (L : List (Event (M .Call))) (N : List (Event ViewCall)) → Carries M L N →
       Legal (viewMachine (M .number)) (M .view s₀) P N → Legal M s₀ P L
+
+  -- as document 02 words it too
+  abbrev pub LegalAsWrittenCarried : Type 0
+  LegalAsWrittenCarried =
+      (s₀ : M .State) → Sound s₀ → (P : Pair) → (L : List (Event (M .Call))) (N : List (Event ViewCall)) → Carries M L N →
+      LegalAsWritten (viewMachine (M .number)) (M .view s₀) P N → LegalAsWritten M s₀ P L
 
   -- it comes to the same
   abbrev pub SummaryCarried : Type 0

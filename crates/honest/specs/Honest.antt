@@ -21,6 +21,10 @@ use Rattle.honest.specs.Rules.{Label, opening, arrival, other, IsArrival
 abbrev pub bringing : Pair → LineSegment → (clock : ℕ) → Ask
 bringing P p clock = record { side = sideOf P (p .from); clock = clock; key = keyOf P (p .from); segment = onWire p }
 
+-- what the history keeps of a reset that is no arrival: that it passed. Whoever sent it, its numbers count for nothing
+abbrev pub someReset : LineSegment
+someReset = record { from = opener; flags = RST; start = 0; length = 0; acked = 0; window = 0 }
+
 module _ (M : Machine) where
   abbrev pub Events : Type 0
   Events = List (Event (M .Call))
@@ -52,12 +56,16 @@ module _ (M : Machine) where
   unfoldable pub passes : Told → M .Call → Bool
   passes t q = M .run (t .state) q .answer =ᵇ 0
 
+  -- "the larger of this call's clock and the pass clock"
+  abbrev pub largerClock : Told → M .Call → ℕ
+  largerClock t q = max (clockIn (M .reads q)) (t .passClock)
+
   -- the pass clock after a call; one on another part of the table does not move it, as `clockIn` is 0 for it
   abbrev pub nextClock : Told → M .Call → ℕ
-  nextClock t q = if passes t q then max (clockIn (M .reads q)) (t .passClock) else t .passClock
+  nextClock t q = if passes t q then largerClock t q else t .passClock
 
-  -- after a call with a segment p of the pair. Where it passes it counts as passed on the opening's entry; its place is not looked at: on
-  -- a legal list it is the opening's, by the claim for the shorter list
+  -- after a call that, where it passes, counts as passed on the opening's entry with p: the opening, an arrival, or a reset. The place of an
+  -- arrival is not looked at: on a legal list it is the opening's, by the claim for the shorter list
   abbrev pub afterSegment : Told → M .Call → ℕ → LineSegment → Told
   afterSegment t q place p = record {
     state = M .run (t .state) q .next;
@@ -70,21 +78,17 @@ module _ (M : Machine) where
 
   -- live at a call, "told from the calls: the larger of this call's clock and the pass clock is under" `until`
   abbrev pub Live : Told → M .Call → Type 0
-  Live t q = max (clockIn (M .reads q)) (t .passClock) < t .until
+  Live t q = largerClock t q < t .until
 
   -- whether a call is "passed on the opening's entry", by its place: after the opening, as long as that entry is live, since once it has
-  -- expired its place may be another's; and not on another part of the table, whatever its place there
+  -- expired or been freed its place may be another's; and not on another part of the table, whatever its place there
   unfoldable pub passedOnOurs : Told → M .Call → Bool
   passedOnOurs t q =
       t .openingSeen
-      && ((max (clockIn (M .reads q)) (t .passClock) <ᵇ t .until)
+      && ((largerClock t q <ᵇ t .until)
       && (asksHere (M .reads q) && (passes t q && (M .run (t .state) q .place =ᵇ t .place))))
 
-  -- what the history keeps of a reset that is no arrival: that it passed. Whoever sent it, its numbers count for nothing
-  abbrev pub someReset : LineSegment
-  someReset = record { from = opener; flags = RST; start = 0; length = 0; acked = 0; window = 0 }
-
-  -- after a call that leaves the opening's entry as it is
+  -- after any other call. On a legal list it leaves the opening's entry as it is
   abbrev pub afterElsewhere : Told → M .Call → Told
   afterElsewhere t q = record {
     state = M .run (t .state) q .next;
@@ -145,14 +149,15 @@ module _ (M : Machine) where
       pub arrives : Arrives P k p q L
       pub in-order : rst (p .flags) ≡ 0 → InOrder (p .from) k L
       pub live : Live (told s₀ L) q
-      -- "Demand 3 now allows resets .. that themselves pass" (document 02, item 6)
+      -- "Demand 3 now allows resets .. that themselves pass" (document 02, item 6); a call with one that doesn't pass counts as any other call.
+      -- From stage 2 on it gives stage 6; in stage 1 it frees, and no arrival is live after it (`until`)
       pub reset-passes : rst (p .flags) ≡ 1 → passes (told s₀ L) q ≡ true
 
     abbrev pub FairCall : Label → M .Call → Events → Type 0
     FairCall (opening k p) q L = Opening s₀ P k p q L
     FairCall (arrival k p) q L = Arrival k p q L
     -- "After the opening, a call that is no arrival may give anything, but isn't passed on the opening's entry", unless it brings a reset,
-    -- whoever sent that
+    -- whoever sent that: from stage 2 on it gives stage 6; in stage 1 it frees, and no arrival is live after it (`until`)
     FairCall other q L = passedOnOurs (told s₀ L) q ≡ true → bringsReset (M .reads q) ≡ true
 
     abbrev pub Fair : Event (M .Call) → Events → Type 0
@@ -184,7 +189,7 @@ Demand3 M Sound =
     (s₀ : M .State) → Sound s₀ → (P : Pair) → P .side ≤ 1 → (L : List (Event (M .Call))) →
     Legal M s₀ P L → NeverBlocked M s₀ L
 
--- The same in document 02's own words, which ask for more: only the ends send resets, "from stage 2 on", and these arrive in order too
+-- The same in document 02's own words, which ask for more: of resets only the ends' pass on the entry, sent "from stage 2 on", and in order too
 
 module _ (M : Machine) (s₀ : M .State) (P : Pair) where
   pub record ArrivalAsWritten (k : ℕ) (p : LineSegment) (q : M .Call) (L : Events M) : Type 0 where

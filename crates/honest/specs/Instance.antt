@@ -10,7 +10,7 @@ use Rattle.honest.specs.Machine.{asks, Machine}
 abbrev pub ViewCall : Type 0
 ViewCall = (a : Ask) × (a .side ≤ 1) × Placeable (a .segment)
 
--- its places have any numbers
+-- its places have any numbers; where they differ it keeps to the rows (`KeepsTo.numbers-differ`)
 abbrev pub viewMachine : (ℕ → ℕ) → Machine
 viewMachine number = record {
   State = View connections;

@@ -9,4 +9,4 @@ pub mod Carries
 pub mod Marked
 pub mod Witness
 pub mod Needed
-pub mod Written
+pub mod AsWritten

@@ -81,7 +81,7 @@ firstSyn = opener's SYN 0 1 0 1000 tt
 abbrev firstSynAck : Piece
 firstSynAck = answerer's SYN+ACK 0 1 1 1000 tt
 
-abbrev firstAck : Piece
+abbrev pub firstAck : Piece
 firstAck = opener's ACK 1 0 1 1000 tt
 
 -- the answerer's refusal of the SYN
@@ -91,10 +91,10 @@ firstReset = answerer's ACK+RST 0 0 1 1000 tt
 abbrev synThrough : List Seen
 synThrough = sends firstSyn ∷ opensAt 0 firstSyn ∷ got 0 firstSyn ∷ []
 
-abbrev synAckThrough : List Seen
+abbrev pub synAckThrough : List Seen
 synAckThrough = synThrough ++ through 0 firstSynAck
 
-abbrev pub handshake : List Seen
+abbrev handshake : List Seen
 handshake = synAckThrough ++ through 1 firstAck
 
 -- 2,000 octets of the opener, the first half acknowledged: its end is 2001, and bound II asks for 1001 or above

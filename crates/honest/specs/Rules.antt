@@ -1,5 +1,5 @@
--- Honest ends (document 01; resets by document 02, item 6): events, what was sent, has arrived and was received, and what an end may send. In
--- document 01's order, with its sentences above what states them. Lists are newest first: in x ∷ L, x comes after all of L. "Places here are whole numbers": segments are
+-- Honest ends (document 01; of resets document 02, item 6): events, what was sent, has arrived and was received, and what an end may send.
+-- In document 01's order, with its sentences above what states them. Lists are newest first: in x ∷ L, x comes after all of L. "Places here are whole numbers": segments are
 -- those of `history`, with places on the unwrapped line.
 use Prim.Native.Nat.{ℕ, _+_, _<_, _≤_, max}
 use mathlib.Core.Path.{_≡_}
@@ -89,6 +89,7 @@ unfoldable pub highest : (LineSegment → ℕ) → List LineSegment → ℕ
 highest f [] = 0
 highest f (p ∷ l) = if isReset (p .flags) then highest f l else max (f p) (highest f l)
 
+-- whether a test holds of one of them
 unfoldable pub some : (LineSegment → Bool) → List LineSegment → Bool
 some test [] = false
 some test (p ∷ l) = (not (isReset (p .flags)) && test p) || some test l
@@ -147,7 +148,7 @@ module _ (P : Pair) {Call : Type 0} (p : LineSegment) (L : List (Event Call)) wh
     -- a reset is none of these
     pub no-reset : rst (p .flags) ≡ 0
 
-  -- "Honest-end rules don't bind a reset's numbers" (document 02, item 6). When one may pass is asked of the calls that bring it
+  -- "Honest-end rules don't bind a reset's numbers" (document 02, item 6); what is asked of one is asked where it arrives
   pub record AnyReset : Type 0 where
     pub by-either : p .from < 2
     pub is-reset : rst (p .flags) ≡ 1

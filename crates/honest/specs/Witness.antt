@@ -1,6 +1,6 @@
 -- A legal list, so that demand 3 says something: one connection, from the opening to both FINs and its end. An expired entry of the
 -- same ports stands beside it; in each stage an arrival comes at the last millisecond of the life; once it has expired, another connection
--- takes its place. In each stage from 2 on a reset passes, an end's or one that no end has sent, and is lost past the filter. Its numbers
+-- takes its place. In each stage from 2 on a reset passes, an end's or one that no end has sent, and is lost past the filter. Sequence numbers
 -- cross 2^32 both ways, with zero windows and shrunk ones, first segments of different windows, losses before the filter and after it,
 -- repeats, resends, deliveries out of order, a clock set back, and other traffic, blocked and passed.
 use Prim.Native.Nat.{ℕ, zero, suc, _+_, _-_, _^_, _≤_}
@@ -85,7 +85,7 @@ openerSends =
     ∷ opener's ACK 1 1 1 100 tt
     -- 4: up to the right edge of its 1, over 2^32; a shrunk window
     ∷ opener's ACK 2 9 1 50 tt
-    -- 5: a reset, with octets and a window; its acknowledgement is further than the next one
+    -- 5: a reset, with octets and a window; its acknowledgement is further than the next segment's
     ∷ opener's ACK+RST 11 100 101 65535 tt
     -- 6: a zero window from here on; acknowledges half of what was received
     ∷ opener's ACK 11 2000 51 0 tt
@@ -213,14 +213,16 @@ story =
     ∷ uncounted 281200 (opener's RST 900000 0 0 0 tt)
     ∷ delivers o 4
     ∷ delivers a 2
-    -- the opener resets, which passes twice in a row, in stages 3 and 6, and is lost past the filter both times
+    -- a reset of the opener's passes twice in a row, in stages 3 and 6, and is lost past the filter both times
     ∷ sends (o 5)
     ∷ arrives o 5 281300
     ∷ arrives o 5 281400
-    -- so both go on. Sent ahead, one of the two lost; the answerer sends again, with a shrunk window, and so does the opener
+    -- so both go on. Sent ahead, one of the two lost; behind the other the reset comes once more, out of order. The answerer sends again, with a
+    -- shrunk window, and so does the opener
     ∷ sends (o 6)
     ∷ sends (o 7)
     ∷ arrives o 6 282000
+    ∷ arrives o 5 282050
     ∷ sends (a 3)
     ∷ arrives a 3 282100
     ∷ delivers a 3
@@ -268,7 +270,7 @@ story =
     ∷ arrives o 13 435904999
     ∷ arrives o 13 436144998
     ∷ delivers o 13
-    -- a reset of both FINs' connection, and the last acknowledgement just before its 10,000 ms are over
+    -- a reset once both FINs have passed, and the last acknowledgement just before its 10,000 ms are over
     ∷ uncounted 436144999 (answerer's RST 102 0 0 0 tt)
     ∷ sends (a 8)
     ∷ arrives a 8 436154998

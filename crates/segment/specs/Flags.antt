@@ -46,3 +46,6 @@ RST+FIN = 5
 -- without FIN
 abbrev pub ACK+RST : ℕ
 ACK+RST = 20
+
+abbrev pub ACK+RST+FIN : ℕ
+ACK+RST+FIN = 21
