@@ -9,9 +9,9 @@ use segment::Segment;
 use serial::OctetCount;
 use serial::SeqNum;
 
-// What one end has shown: document 01's record.
+// What one end has shown, resets left out: document 01's record.
 pub struct End {
-    // The highest end of a segment that it sent, resets left out in all three.
+    // The highest end of a segment that it sent.
     pub end: SeqNum,
     // The highest right edge that the other end granted it.
     pub edge: SeqNum,

@@ -18,7 +18,7 @@ OpenedSound =
     (side : ℕ) (g : Segment) (now : ℕ) → side ≤ 1 → Placeable g →
     soundConnection now (opened side g now) ≡ true
 
--- a pass of a sound connection leaves it sound, by the clock used, a reset from stage 2 on; in stage 1 that frees it (`passed`)
+-- a pass of a sound connection leaves it sound, by the clock used; so does a reset from stage 2 on, while one in stage 1 frees it (`passed`)
 abbrev pub PassedSound : Type 0
 PassedSound =
     (clock : ℕ) (c : Connection) (x : ℕ → End) → TwoEnds c x → soundConnection clock c ≡ true → (i : ℕ) → i < 2 → (g : Segment) →
