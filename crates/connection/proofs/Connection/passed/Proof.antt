@@ -1,11 +1,16 @@
+use Prim.Native.Nat.{ℕ, _≤_, _<_}
 use mathlib.Core.Path.{_≡_, sym, _∙_}
 use mathlib.Core.Bool.{true, false}
+use native.Mathlib.Omega.{arith}
 use Rattle.choice.proofs.Choice.{if-true, if-false, if-=, if-=-not, if-≠, if-≠-not, if-≤, if-≤-not}
 use Rattle.segment.specs.Flags.{isReset}
 use Rattle.connection.specs.Decision.{passed}
 use borrow.Author.Needs.{needs}
 use Rattle.connection.proofs.Connection.passed.Statement.{statement}
 use Rattle.connection.proofs.Connection.passed.Tie as tie
+
+abbrev stage : tie.Then1 → ℕ
+stage c = c .before .before .args .self .stage
 
 is-reset : (c : tie.Then1) → isReset (c .before .before .args .segment .flags) ≡ true
 is-reset c = sym (c .before .has-rst .ensures) ∙ c .if1 .taken
@@ -26,13 +31,15 @@ returns : tie.Need-returns
 unfolding passed
 returns c =
     let k = c .before in
-    c .no-connection .ensures ∙ sym (if-true _ _ _ (is-reset (k .before)) ∙ if-≤-not _ _ (k .if2 .taken))
+    let early : stage (k .before) < 2 = omega (arith, k .if2 .taken) in
+    c .no-connection .ensures ∙ sym (if-true _ _ _ (is-reset (k .before)) ∙ if-≤-not _ _ early)
 
 returns-2 : tie.Need-returns-2
 unfolding passed
 returns-2 c =
     let k = c .before in
-    c .reset .ensures ∙ sym (if-true _ _ _ (is-reset (k .before)) ∙ if-≤ _ _ (k .if2 .left))
+    let later : 2 ≤ stage (k .before) = omega (arith, k .if2 .left) in
+    c .reset .ensures ∙ sym (if-true _ _ _ (is-reset (k .before)) ∙ if-≤ _ _ later)
 
 repeated-requires : tie.Need-repeated-requires
 repeated-requires c κs = search needs
