@@ -220,7 +220,7 @@ module _ (c : Connection) (h : List LineSegment) (holds : Holds c h) (p : LineSe
 
 module _ (h : List LineSegment) (p : LineSegment) (is-reset : rst (p .flags) ≡ 1) where
   -- it counts for nothing
-  pub reset-numbers : (i : ℕ) → numbersOf i (p ∷ h) ≡ numbersOf i h
+  reset-numbers : (i : ℕ) → numbersOf i (p ∷ h) ≡ numbersOf i h
   unfolding numbersOf
   reset-numbers i =
       let none : ((p .from =ᵇ i) && (rst (p .flags) ≠ᵇ 1)) ≡ false = rw (eq-eqb (rst (p .flags)) 1 is-reset) (and-false (p .from =ᵇ i)) in
@@ -236,7 +236,7 @@ module _ (h : List LineSegment) (p : LineSegment) (is-reset : rst (p .flags) ≡
   reset-freed first = if-= _ _ is-reset ∙ rw first (if-≤-not {a = 2} {b = 1} 6 0 (omega arith))
 
   module _ (open-h : Answered h) where
-    pub reset-stage : stageOf (p ∷ h) ≡ 6
+    reset-stage : stageOf (p ∷ h) ≡ 6
     unfolding stageOf
     reset-stage = if-= _ _ is-reset ∙ if-≤ _ _ (open-h .stage)
 
