@@ -1,6 +1,6 @@
 -- Honest ends (document 01; of resets document 02, item 6): events, what was sent, has arrived and was received, and what an end may send.
--- In document 01's order, with its sentences above what states them. Lists are newest first: in x ∷ L, x comes after all of L. "Places here are whole numbers": segments are
--- those of `history`, with places on the unwrapped line.
+-- In document 01's order, with its sentences above what states them. Lists are newest first: in x ∷ L, x comes after all of L. "Places here are
+-- whole numbers": segments are those of `history`, with places on the unwrapped line.
 use Prim.Native.Nat.{ℕ, _+_, _<_, _≤_, max}
 use mathlib.Core.Path.{_≡_}
 use mathlib.Core.Logic.{_⊎_}

@@ -2,9 +2,11 @@
 //! and the deadlines.
 //!
 //! The expected results were worked out by hand from document 01 and document
-//! 02, item 6, and stand in the tables as the lines that a run prints. The
-//! program checks that this library agrees with all of them, then prints the
-//! input script (argument `stdin`) or the expected output (argument `stdout`).
+//! 02, item 6; those of stage 6 that repeat from stage to stage were laid out by
+//! a script from the rule, not by this library. They stand in the tables as the
+//! lines that a run prints. The program checks that this library agrees with all
+//! of them, then prints the input script (argument `stdin`) or the expected
+//! output (argument `stdout`).
 //!
 //! The script, each line ended by a newline; fields are unsigned decimal
 //! numbers, separated by single spaces:
