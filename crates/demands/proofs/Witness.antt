@@ -72,9 +72,9 @@ bytes-witness-refuses = (all-read .1, all-read .2, all-read .3)
 
 witness-carried : Carries ipv4Machine bytesWitness witness
 witness-carried =
-    refused-carries ipv4Machine 45 fragment 7 6 (bytes-witness-refuses .1)
-    (refused-carries ipv4Machine 56 wrongWindow 16 36 (bytes-witness-refuses .2)
-    (refused-carries ipv4Machine 57 wrongHeaderSum 6 10 (bytes-witness-refuses .0)
+    refused-carries ipv4Machine 53 fragment 7 6 (bytes-witness-refuses .1)
+    (refused-carries ipv4Machine 64 wrongWindow 16 36 (bytes-witness-refuses .2)
+    (refused-carries ipv4Machine 65 wrongHeaderSum 6 10 (bytes-witness-refuses .0)
     (made-carries ipv4Machine (λ b. bytesCall (b .0)) witness (all-read .0))))
 
 pub bytes-witness-legal : Legal ipv4Machine (freshBytes V4 64) pair bytesWitness

@@ -40,7 +40,7 @@ fragment = spoilt 6 3 0x200020 (bytesCall (brings 281900 (o 6) .0))
 abbrev pub wrongWindow : BytesCall
 wrongWindow = spoilt 34 2 0xffff (bytesCall (brings 281050 (a 2) .0))
 
--- each right before the arrival of the packet that it was made from: 45 of the witness's events come after the fragment, 56 after the wrong window, 57
+-- each right before the arrival of the packet that it was made from: 53 of the witness's events come after the fragment, 64 after the wrong window, 65
 -- after the wrong header sum
 abbrev pub bytesWitness : List (Event BytesCall)
-bytesWitness = withOther 45 fragment (withOther 56 wrongWindow (withOther 57 wrongHeaderSum madeWitness))
+bytesWitness = withOther 53 fragment (withOther 64 wrongWindow (withOther 65 wrongHeaderSum madeWitness))

@@ -9,7 +9,7 @@ use borrow.Author.Tests.{eqb-true, eqb-false}
 use Rattle.choice.proofs.Choice.{if-either, if-cases, if-≤}
 use Rattle.segment.specs.Flags.{rst, isReset, ack}
 use Rattle.segment.specs.declared.Segment.{Segment}
-use Rattle.connection.specs.Ranges.{ackRange}
+use Rattle.connection.specs.Ranges.{ackRange, widest}
 use Rattle.connection.specs.Stages.{lifeOf, finsAfter}
 use Rattle.connection.specs.Decision.{verdictOn, free, passed, opened, carried, repeated, answered, reset}
 use Rattle.connection.specs.declared.Connection.{Connection}
@@ -20,9 +20,9 @@ use Rattle.history.specs.History.{LineSegment, numbersOf, onWire, judge, Holds}
 use Rattle.history.proofs.Step.{Near, start-near, ack-near, ackRange-small}
 use Rattle.history.proofs.Verdict.{Unanswered, Answered, spans, judged-answered, judged-unanswered}
 use Rattle.history.proofs.Pass.{carried-holds, carried-answered, repeated-holds, repeated-unanswered, answered-holds, answered-answered, answerer-begins}
-use Rattle.honest.specs.Rules.{Event, Pair}
+use Rattle.honest.specs.Rules.{Event, Pair, overtakingAllowance}
 use Rattle.honest.proofs.Lists.{NoReset}
-use Rattle.honest.proofs.Sends.{SentWith, NoneLater, First, Fact, Protocol, rises-more}
+use Rattle.honest.proofs.Sends.{SentWith, Overtaken, First, Fact, Protocol, rises-more}
 use Rattle.honest.proofs.Bounds as Bounds
 
 -- What a pass that does not free leaves of side and deadline
@@ -77,29 +77,29 @@ module _
     pub heard-after : Heard P (p ∷ h)
 
   -- from stage 2 on
-  module _ (in-order : NoneLater Arrived (p .from) k) (a : Answered h) (begun : (i : ℕ) → i < 2 → P .start i + 1 ≤ numbersOf i h .end) where
-    other-known : 1 - p .from < 2
-    other-known = omega (arith, fact .end-known)
+  module _
+      (overtaken : Overtaken Arrived overtakingAllowance k p L) (a : Answered h)
+      (begun : (i : ℕ) → i < 2 → P .start i + 1 ≤ numbersOf i h .end) where
+    -- the allowance is what the range has past the largest window
+    fits : widest + overtakingAllowance ≤ ackRange
+    fits = omega arith
 
-    pass : judge h p ≡ Pass
-    pass = Bounds.judged-pass P h Arrived L inv k p s sent no-reset in-order a begun
+    b : Bounds.InBounds h p
+    b = Bounds.in-bounds P h Arrived L inv overtakingAllowance k p s sent no-reset overtaken fits a begun
 
     near : Near (numbersOf (p .from) h .end) (p .start)
     near =
         start-near (numbersOf (p .from) h) (numbersOf (1 - p .from) h) (p .start) (p .length)
-        (spans h a (p .from) (fact .end-known)) (spans h a (1 - p .from) other-known)
-        (Bounds.bound-II P h Arrived L inv k p s sent no-reset in-order a begun) (Bounds.bound-I P h Arrived L inv k p s sent no-reset in-order a begun)
+        (spans h a (p .from) (fact .end-known)) (spans h a (1 - p .from) (omega (arith, fact .end-known))) (b .II) (b .I)
 
     near-ack : ack (p .flags) ≡ 1 → Near (numbersOf (1 - p .from) h .end) (p .acked)
-    near-ack acks =
-        ack-near ackRange ackRange-small (numbersOf (1 - p .from) h) (p .acked)
-        (Bounds.bound-III P h Arrived L inv k p s sent no-reset in-order a begun acks) (Bounds.bound-IV P h Arrived L inv k p s sent no-reset in-order a begun acks)
+    near-ack acks = ack-near ackRange ackRange-small (numbersOf (1 - p .from) h) (p .acked) (b .III acks) (b .IV acks)
 
     later-passing : Passing
     later-passing = record {
-      verdict = judged-answered c h holds p (fact .end-known) a near near-ack ∙ pass;
-      holds-after = carried-holds c h holds p (fact .end-known) (fact .formed) (fact .no-reset) pass a;
-      heard-after = both (carried-answered c h holds p (fact .end-known) (fact .formed) (fact .no-reset) pass a)
+      verdict = judged-answered c h holds p (fact .end-known) a near near-ack ∙ b .pass;
+      holds-after = carried-holds c h holds p (fact .end-known) (fact .formed) (fact .no-reset) (b .pass) a;
+      heard-after = both (carried-answered c h holds p (fact .end-known) (fact .formed) (fact .no-reset) (b .pass) a)
           (λ i known. omega (arith, begun i known, rises-more p h .end i));
     }
 
@@ -150,6 +150,6 @@ module _
                 omega (arith, end, x .rule .start)
             begun-both answerer (suc (suc i)) known = absurd (omega arith)
 
-  pub passing : NoneLater Arrived (p .from) k → Heard P h → Passing
-  passing in-order (quiet u begun) = first-passing u begun
-  passing in-order (both a begun) = later-passing in-order a begun
+  pub passing : Overtaken Arrived overtakingAllowance k p L → Heard P h → Passing
+  passing overtaken (quiet u begun) = first-passing u begun
+  passing overtaken (both a begun) = later-passing overtaken a begun

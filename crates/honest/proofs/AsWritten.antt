@@ -1,6 +1,5 @@
 -- Demand 3 in document 02's own words follows: they ask for more.
 use mathlib.Core.List.{List, [], _∷_}
-use native.Mathlib.Omega.{arith}
 use Rattle.honest.specs.Machine.{Machine, KeepsTo}
 use Rattle.honest.specs.Rules.{opening, arrival, other, Event, send, call, delivery, Pair}
 use Rattle.honest.specs.Honest.{Legal, LegalAsWritten, Demand3AsWritten}
@@ -18,7 +17,7 @@ written-legal M s₀ P (call q (arrival k p) ∷ L) legal =
       record {
         after-opening = r .after-opening;
         arrives = r .arrives;
-        in-order = λ none j g was mine no-reset. omega (arith, r .in-order j g was mine);
+        order = λ _. r .order;
         live = r .live;
         reset-passes = r .reset-passes;
       },

@@ -9,6 +9,7 @@ use lib.Dec.{eqb}
 use borrow.Author.Tests.{eq-eqb, eqb-true, eqb-false, le-leb}
 use Rattle.choice.specs.Choice.{if_then_else_, _=ᵇ_}
 use Rattle.choice.proofs.Choice.{if-true, if-false, if-=, if-=-not}
+use Rattle.choice.proofs.Tests.{lt-or-ge}
 use Rattle.segment.specs.Flags.{ack, SYN, SYN+ACK}
 use Rattle.connection.specs.Ranges.{ackRange, widest}
 use Rattle.connection.specs.declared.Verdict.the-variants.{Pass, AckMissed}
@@ -16,27 +17,62 @@ use Rattle.history.specs.Numbers.{Numbers, boundsI-II, boundsIII-IV}
 use Rattle.history.specs.History.{LineSegment, numbersOf, stageOf, judge, sameSynOnLine, replyOnLine, judgeUnanswered, Formed}
 use Rattle.history.proofs.Step.{Spans}
 use Rattle.history.proofs.Verdict.{Unanswered, Answered, spans}
-use Rattle.honest.specs.Rules.{Event, Pair, highest, ackOf, endOf, hasAnswer}
+use Rattle.honest.specs.Rules.{Event, Pair, highest, ackOf, endOf, highestAckAtSending, hasAnswer}
 use Rattle.honest.proofs.Lists.{In, NoReset, highest-lub, endBy-mine, numbers-up, end-lub}
-use Rattle.honest.proofs.Sends.{SentWith, NoneLater, ackFrom, Later, First, Fact, Protocol, FirstFacts, first-facts, answered-in, passed-sent}
+use Rattle.honest.proofs.Sends.{SentWith, snapshot-received, Overtaken, ackFrom, Later, First, Fact, Protocol, FirstFacts, first-facts, answered-in, passed-sent}
+
+pub record InBounds (h : List LineSegment) (p : LineSegment) : Type 0 where
+  pub I : endOf p ≤ numbersOf (p .from) h .edge
+  pub II : numbersOf (p .from) h .end ≤ p .start + numbersOf (1 - p .from) h .win
+  pub III : ack (p .flags) ≡ 1 → p .acked ≤ numbersOf (1 - p .from) h .end
+  pub IV : ack (p .flags) ≡ 1 → numbersOf (1 - p .from) h .end ≤ p .acked + ackRange
+  pub pass : judge h p ≡ Pass
 
 module _
     {Call : Type 0} (P : Pair) (h : List LineSegment) (Arrived : ℕ → LineSegment → Type 0) (L : List (Event Call))
     (inv : Protocol P h Arrived L) where
-  module _ (k : ℕ) (p : LineSegment) (s : ℕ) (sent : SentWith k p s L) (no-reset : NoReset p) (in-order : NoneLater Arrived (p .from) k) where
+  module _
+      (allowance k : ℕ) (p : LineSegment) (s : ℕ) (sent : SentWith k p s L) (no-reset : NoReset p)
+      (overtaken : Overtaken Arrived allowance k p L) where
     fact : Fact P h p s L
     fact = inv .facts k p s sent no-reset
 
-    -- The order of arrivals enters here alone: what has passed of the same end was sent no later
+    -- The order of arrivals enters here alone: what has passed of the same end was sent no later, or may overtake p
     pub admitted :
         (g : LineSegment) → In g h → NoReset g → g .from ≡ p .from →
-        (r : ℕ) × Fact P h g r L × (r ≤ p .start) × (ack (g .flags) ≡ 1 → ack (p .flags) ≡ 1 → g .acked ≤ p .acked)
+        (r : ℕ) × Fact P h g r L × (r ≤ p .start) × (ack (g .flags) ≡ 1 → ack (p .flags) ≡ 1 → g .acked ≤ p .acked + allowance)
     admitted g there none same =
         let a = passed-sent P h Arrived L inv g there none in
-        let o = inv .order (a .0) g (a .1) k p s (a .3) sent none no-reset same (in-order (a .0) g (a .2) same (omega (arith, none))) in
-        (a .1, inv .facts (a .0) g (a .1) (a .3) none, omega (arith, o .0, fact .snapshot-low), o .1)
+        let f = inv .facts (a .0) g (a .1) (a .3) none in
+        ⊎-elim
+        (λ (later-sent : k < a .0).
+        let o = overtaken (a .0) g (a .2) same (omega (arith, none)) later-sent in (
+          a .1,
+          f,
+          first-or-later (a .0) g (a .1) (a .3) same f (omega (arith, o .sent-while)),
+          λ acks acks'.
+              let own : ackOf g ≡ g .acked = if-= _ _ acks in
+              let p's : ackOf p ≡ p .acked = if-= _ _ acks' in
+              omega (arith, o .acks-near),
+        ))
+        (λ (no-later : a .0 ≤ k).
+        let o = inv .order (a .0) g (a .1) k p s (a .3) sent none no-reset same no-later in
+        (a .1, f, omega (arith, o .0, fact .snapshot-low), λ acks acks'. omega (arith, o .1 acks acks')))
+        (lt-or-ge k (a .0))
+      where
+        first-or-later :
+            (j : ℕ) (g : LineSegment) (r : ℕ) → SentWith j g r L → g .from ≡ p .from → Fact P h g r L →
+            highestAckAtSending (g .from) j L ≤ p .start → r ≤ p .start
+        first-or-later j g r was same f low =
+            let begins : P .start (g .from) ≡ P .start (p .from) = ap (P .start) same in
+            ⊎-elim
+            (λ (x : First P g r). omega (arith, x .own-start, x .rule .start, fact .from-syn))
+            (λ (y : Later g r L). omega (arith, snapshot-received j g r L was (y .no-syn)))
+            (f .kind)
 
-    module _ (both-heard : Answered h) (begun : (i : ℕ) → i < 2 → P .start i + 1 ≤ numbersOf i h .end) where
+    module _
+        (fits : widest + allowance ≤ ackRange) (both-heard : Answered h)
+        (begun : (i : ℕ) → i < 2 → P .start i + 1 ≤ numbersOf i h .end) where
       i : ℕ
       i = p .from
 
@@ -52,24 +88,23 @@ module _
       begun-theirs : P .start (1 - p .from) + 1 ≤ numbersOf (1 - p .from) h .end
       begun-theirs = begun (1 - p .from) (omega (arith, fact .end-known))
 
-      pub bound-I : endOf p ≤ numbersOf (p .from) h .edge
+      bound-I : endOf p ≤ numbersOf (p .from) h .edge
       bound-I = omega (arith, fact .below-edge, begun-mine, F .ordered)
 
-      pub bound-II : numbersOf (p .from) h .end ≤ p .start + numbersOf (1 - p .from) h .win
+      bound-II : numbersOf (p .from) h .end ≤ p .start + numbersOf (1 - p .from) h .win
       bound-II = end-lub (p .from) _ h (λ g there mine none.
           let a = admitted g there none mine in
           let window : numbersOf (1 - g .from) h .win ≡ numbersOf (1 - p .from) h .win = ap (λ (j : ℕ). numbersOf (1 - j) h .win) mine in
           omega (arith, a .1 .in-window, a .2))
 
-      pub bound-III : ack (p .flags) ≡ 1 → p .acked ≤ numbersOf (1 - p .from) h .end
+      bound-III : ack (p .flags) ≡ 1 → p .acked ≤ numbersOf (1 - p .from) h .end
       bound-III acks = omega (arith, fact .acks-passed acks, begun-theirs)
 
-      -- where each acknowledgement of this end that has passed is further by an allowance at most, so is the highest
+      -- where each acknowledgement of this end that has passed is further by the allowance at most, so is the highest
       acks-near :
-          (allowance : ℕ) →
           ((g : LineSegment) → In g h → NoReset g → g .from ≡ p .from → ack (g .flags) ≡ 1 → g .acked ≤ p .acked + allowance) →
           highest (ackFrom (p .from)) h ≤ p .acked + allowance
-      acks-near allowance each =
+      acks-near each =
           highest-lub (ackFrom (p .from)) _ h (λ g there none. by g there none (eqb (g .from) (p .from)) refl (eqb (ack (g .flags)) 1) refl)
         where
           by :
@@ -81,12 +116,12 @@ module _
           by g there none true e false a = rw (if-true (g .from =ᵇ p .from) (ackOf g) 0 e, if-false (ack (g .flags) =ᵇ 1) (g .acked) 0 a) (omega arith)
           by g there none false e u a = rw (if-false (g .from =ᵇ p .from) (ackOf g) 0 e) (omega arith)
 
-      -- IV, for any largest window of this end, range and allowance
+      -- IV, for any largest window of this end and range
       ack-in-range :
-          (largest range allowance : ℕ) → largest + allowance ≤ range → numbersOf (p .from) h .win ≤ largest →
+          (largest range : ℕ) → largest + allowance ≤ range → numbersOf (p .from) h .win ≤ largest →
           highest (ackFrom (p .from)) h ≤ p .acked + allowance → ack (p .flags) ≡ 1 →
           numbersOf (1 - p .from) h .end ≤ p .acked + range
-      ack-in-range largest range allowance wide most near acks = end-lub (1 - p .from) _ h (λ g there other none.
+      ack-in-range largest range wide most near acks = end-lub (1 - p .from) _ h (λ g there other none.
           let a = passed-sent P h Arrived L inv g there none in
           let f = inv .facts (a .0) g (a .1) (a .3) none in
           let back : 1 - g .from ≡ p .from = omega (arith, fact .end-known) in
@@ -95,13 +130,11 @@ module _
           let begins : P .start (g .from) ≡ P .start (1 - p .from) = ap (P .start) other in
           omega (arith, f .in-window, f .snapshot-passed, fact .acks-syn acks))
 
-      -- as arrivals come in order, no acknowledgement that has passed is further
-      pub bound-IV : ack (p .flags) ≡ 1 → numbersOf (1 - p .from) h .end ≤ p .acked + ackRange
+      bound-IV : ack (p .flags) ≡ 1 → numbersOf (1 - p .from) h .end ≤ p .acked + ackRange
       bound-IV acks =
-          ack-in-range widest ackRange 0 (omega arith) (F .win-most)
-          (acks-near 0 (λ g there none same acks'. omega (arith, admitted g there none same .3 acks' acks))) acks
+          ack-in-range widest ackRange fits (F .win-most) (acks-near (λ g there none same acks'. admitted g there none same .3 acks' acks)) acks
 
-      pub judged-pass : judge h p ≡ Pass
+      judged-pass : judge h p ≡ Pass
       unfolding judge
       judged-pass =
           let later : stageOf h ≡ 1 → ⊥ = λ (e : stageOf h ≡ 1). omega (arith, both-heard .stage) in
@@ -118,6 +151,9 @@ module _
               rw (le-leb _ _ (bound-III acks), le-leb _ _ (bound-IV acks)) in
               if-false _ _ _ (rw (e, in-range))
           by-ack false e = if-false _ _ _ (rw e)
+
+      pub in-bounds : InBounds h p
+      in-bounds = record { I = bound-I; II = bound-II; III = bound-III; IV = bound-IV; pass = judged-pass }
 
   -- In stage 1 neither end is answered, so each sends its first segment only
 

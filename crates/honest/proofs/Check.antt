@@ -6,7 +6,7 @@ use mathlib.Core.Bool.{Bool, true, false, _&&_, _||_, not}
 use mathlib.Core.List.{List, [], _∷_}
 use native.Mathlib.Omega.{arith}
 use lib.ListN.{length}
-use borrow.Author.Tests.{not-true, ltb-true, leb-true, eq-eqb, eqb-true}
+use borrow.Author.Tests.{not-true, lt-ltb, ltb-true, leb-true, eq-eqb, eqb-true}
 use Rattle.choice.specs.Choice.{_<ᵇ_, _≤ᵇ_, _=ᵇ_}
 use Rattle.choice.proofs.Tests.{&&-true, ||-true, false-true}
 use Rattle.address.specs.Flows.{sameFlow}
@@ -22,8 +22,8 @@ use Rattle.rows.specs.declared.Found.{Found}
 use Rattle.rows.specs.declared.Found.the-variants.{At, Nothing}
 use Rattle.history.specs.History.{LineSegment, onWire, stageOf, Formed}
 use Rattle.honest.specs.Machine.{asks, Machine}
-use Rattle.honest.specs.Rules.{Label, opening, arrival, other, IsArrivalOf, Event, send, call, delivery, Pair, sideOf, keyOf, sentBy, Sent, Arrived, receivedBy, highest, some, ackOf, edgeOf, endOf, hasAnswer, OpenersSyn, AnswerersSynAck, LaterSegment, AnyReset, Allowed, openers-syn, answerers-syn-ack, later, any-reset}
-use Rattle.honest.specs.Honest.{told, passes, passedOnOurs, Live, WasPassed, bringing, Arrives, InOrder, Opening, Arrival, FairCall, Fair, Legal, ArrivalAsWritten, FairAsWritten, LegalAsWritten}
+use Rattle.honest.specs.Rules.{Label, opening, arrival, other, IsArrivalOf, Event, send, call, delivery, Pair, sideOf, keyOf, sentBy, Sent, Arrived, receivedBy, highest, some, ackOf, edgeOf, endOf, highestAckAtSending, MayOvertake, overtakingAllowance, hasAnswer, OpenersSyn, AnswerersSynAck, LaterSegment, AnyReset, Allowed, openers-syn, answerers-syn-ack, later, any-reset}
+use Rattle.honest.specs.Honest.{told, passes, passedOnOurs, Live, WasPassed, bringing, Arrives, InOrderOrOvertaken, Opening, Arrival, FairCall, Fair, Legal, ArrivalAsWritten, FairAsWritten, LegalAsWritten}
 use Rattle.honest.specs.Instance.{ViewCall, viewMachine}
 
 -- Tests with what they show
@@ -44,6 +44,9 @@ module _ {A B : Type 0} where
 
   abbrev pub so : (A → B) → Test A → Test B
   so f t = record { holds = t .holds; shows = λ e. f (t .shows e) }
+
+abbrev pub three : {A B C : Type 0} → Test A → Test B → Test C → Test (A × B × C)
+three s t u = so (λ h. (h .0, h .1 .0, h .1 .1)) (both s (both t u))
 
 abbrev pub yes : {A : Type 0} → A → Test A
 yes a = record { holds = true; shows = λ _. a }
@@ -74,6 +77,9 @@ nothing (At p) = no
 pub if-shows : {A : Type 0} (b : Bool) (t : Test A) → not b || t .holds ≡ true → b ≡ true → A
 if-shows true t e _ = t .shows e
 if-shows false t e f = false-true f
+
+abbrev ifBelow : {A : Type 0} (m n : ℕ) → Test A → Test (m < n → A)
+ifBelow m n t = record { holds = not (m <ᵇ n) || t .holds; shows = λ e under. if-shows (m <ᵇ n) t e (lt-ltb m n under) }
 
 abbrev ifEqual : {A : Type 0} (m n : ℕ) → Test A → Test (m ≡ n → A)
 ifEqual m n t = record { holds = not (m =ᵇ n) || t .holds; shows = λ e is. if-shows (m =ᵇ n) t e (eq-eqb m n is) }
@@ -112,6 +118,11 @@ sameSegment p g =
     (both (equal (p .ack .0) (g .ack .0))
     (both (equal (p .window .0) (g .window .0))
     (both (equal (p .flags) (g .flags)) (equal (p .octets .0) (g .octets .0))))))
+
+abbrev mayOvertake : (allowance highestAck : ℕ) (g p : LineSegment) → Test (MayOvertake allowance highestAck g p)
+mayOvertake allowance highestAck g p =
+    so (λ h. record { sent-while = omega (arith, h .0); acks-near = omega (arith, h .1) })
+    (both (atMost highestAck (p .start)) (atMost (ackOf g) (ackOf p + allowance)))
 
 abbrev formed : (p : LineSegment) → Test (Formed p)
 formed p =
@@ -239,23 +250,27 @@ module _ (t₀ : View connections) (P : Pair) where
   everyArrived T test (call q other ∷ L) = so (λ h j g was. ⊎-elim (λ never. absurd never) (h j g) was) (everyArrived T test L)
   everyArrived T test (delivery n p ∷ L) = everyArrived T test L
 
-  abbrev inOrder : (i k : ℕ) (L : Seen) → Test (InOrder M i k L)
-  inOrder i k L =
-      so (λ h j g was mine none. omega (arith, h j g was mine none))
-      (everyArrived (λ j g. g .from ≡ i → rst (g .flags) ≡ 0 → j ≤ k) (λ j g. ifEqual (g .from) i (ifEqual (rst (g .flags)) 0 (atMost j k))) L)
+  abbrev pub inOrderOrOvertaken : (allowance k : ℕ) (p : LineSegment) (L : Seen) → Test (InOrderOrOvertaken M allowance k p L)
+  inOrderOrOvertaken allowance k p L =
+      so (λ h j g was mine none later-sent.
+      let o = h j g was mine none (omega (arith, later-sent)) in
+      record { sent-while = omega (arith, o .sent-while); acks-near = omega (arith, o .acks-near) })
+      (everyArrived (λ j g. g .from ≡ p .from → rst (g .flags) ≡ 0 → k < j → MayOvertake allowance (highestAckAtSending (g .from) j L) g p)
+      (λ j g. ifEqual (g .from) (p .from) (ifEqual (rst (g .flags)) 0
+      (ifBelow k j (mayOvertake allowance (highestAckAtSending (g .from) j L) g p)))) L)
 
   abbrev comes : (k : ℕ) (p : LineSegment) (q : ViewCall) (L : Seen) → Test (Arrival M t₀ P k p q L)
   comes k p q L =
       so (λ h. record {
         after-opening = h .0;
         arrives = arrives k p q L (h .1 .0);
-        in-order = h .1 .1 .0;
+        order = h .1 .1 .0;
         live = h .1 .1 .1 .0;
         reset-passes = h .1 .1 .1 .1;
       })
       (both (isTrue (told M t₀ L .openingSeen))
       (both (brings k p q L)
-      (both (ifEqual (rst (p .flags)) 0 (inOrder (p .from) k L))
+      (both (ifEqual (rst (p .flags)) 0 (inOrderOrOvertaken overtakingAllowance k p L))
       (both (isLive q L) (ifEqual (rst (p .flags)) 1 (isTrue (passes M (told M t₀ L) q)))))))
 
   -- not passed on the opening's entry, or a reset
@@ -296,13 +311,16 @@ module _ (t₀ : View connections) (P : Pair) where
       so (λ h. record {
         after-opening = h .0;
         arrives = arrives k p q L (h .1 .0);
-        in-order = λ j g was mine. omega (arith, h .1 .1 .0 j g was mine);
+        order = h .1 .1 .0 .0;
+        neither-syn-nor-reset = h .1 .1 .0 .1;
         live = h .1 .1 .1 .0;
         reset-passes = h .1 .1 .1 .1;
       })
       (both (isTrue (told M t₀ L .openingSeen))
       (both (brings k p q L)
-      (both (everyArrived (λ j g. g .from ≡ p .from → j ≤ k) (λ j g. ifEqual (g .from) (p .from) (atMost j k)) L)
+      (both (both (inOrderOrOvertaken overtakingAllowance k p L)
+      (everyArrived (λ j g. g .from ≡ p .from → k < j → (syn (p .flags) ≡ 0) × (rst (p .flags) ≡ 0))
+      (λ j g. ifEqual (g .from) (p .from) (ifBelow k j (both (equal (syn (p .flags)) 0) (equal (rst (p .flags)) 0)))) L))
       (both (isLive q L) (ifEqual (rst (p .flags)) 1 (isTrue (passes M (told M t₀ L) q)))))))
 
   abbrev fairAsWritten : (x : Event ViewCall) (L : Seen) → Test (FairAsWritten M t₀ P x L)

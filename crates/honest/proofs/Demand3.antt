@@ -540,7 +540,10 @@ module _ (M : Machine) (Sound : M .State → Type 0) (keeps : KeepsTo M Sound) (
     after-segment no-reset =
         let x =
         passing P (told M s₀ L .history) (λ j g. Arrived j g L) L (inv .protocol) c (al .holds) k p (w .0) (w .1) no-reset
-        (λ j g was mine none. omega (arith, r .in-order (omega (arith, no-reset)) j g was mine none)) (al .heard) in (
+        (λ j g was mine none later-sent.
+        let o = r .order (omega (arith, no-reset)) j g was mine none (omega (arith, later-sent)) in
+        record { sent-while = omega (arith, o .sent-while); acks-near = omega (arith, o .acks-near) })
+        (al .heard) in (
           answer-is-0 (told M s₀ L) (inv .table) q p a (r .arrives .brings) refl asked-p no-reset c al (r .live) (x .verdict),
           place-is-ours (told M s₀ L) (inv .table) q p a (r .arrives .brings) refl asked-p no-reset c al (r .live) (x .verdict),
           record {

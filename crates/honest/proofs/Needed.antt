@@ -1,5 +1,5 @@
 -- Premises of demand 3 are needed: each list by computation, and that its event is not fair by demand 3 itself.
-use Prim.Native.Nat.{ℕ, _≤_}
+use Prim.Native.Nat.{ℕ, _+_, _≤_}
 use mathlib.Core.Path.{_≡_, refl, sym, _∙_}
 use mathlib.Core.Bool.{true, not}
 use mathlib.Core.List.{List, [], _∷_, _++_, reverse}
@@ -8,18 +8,18 @@ use Rattle.choice.specs.Choice.{if_then_else_, _=ᵇ_}
 use Rattle.serial.specs.Ring.{wrap, ringPlus, ringMinus, nearest}
 use Rattle.serial.specs.Serial.{further}
 use Rattle.address.specs.Flows.{sameFlow}
-use Rattle.connection.specs.Ends.{sent, granted, endsAfter}
+use Rattle.connection.specs.Ends.{opener, answerer, sent, granted, endsAfter}
 use Rattle.connection.specs.Ranges.{sequenceMet, ackMet}
 use Rattle.connection.specs.Stages.{lifeOf, withFin, finsAfter, openStage, stageAfter}
 use Rattle.connection.specs.Decision.{sameSyn, reply, verdictUnanswered, verdictByRanges, verdictOn, opened, repeated, answered, carried, reset, passed}
 use Rattle.rows.specs.Places.{firstFrom}
 use Rattle.rows.specs.Rows.{fromOpener, fromAnswerer, liveMatch, vacant, senderOf, entryWith, onEntry, openingEntry, unmatched, onSegment}
-use Rattle.history.specs.History.{finsOf, stageOf}
-use Rattle.honest.specs.Rules.{opening, arrival, other, send, call, delivery, Pair, sentBy, receivedBy, highest, some, hasAnswer}
+use Rattle.history.specs.History.{numbersOf, finsOf, stageOf}
+use Rattle.honest.specs.Rules.{opening, arrival, other, send, call, delivery, Pair, sentBy, receivedBy, highest, some, highestAckAtSending, hasAnswer}
 use Rattle.honest.specs.Honest.{passes, passedOnOurs, afterCall, told, said, Fair, Legal, NeverBlocked}
-use Rattle.honest.specs.Witness.{Seen}
-use Rattle.honest.specs.Needed.{Need, one, M, FairAfter, BlockedArrival, Shown, AllShown, ofSendings, ofCalls, EachNeeded}
-use Rattle.honest.proofs.Check.{Test, both, yes, no, so, equal, atMost, fair, checked}
+use Rattle.honest.specs.Witness.{pair, brings, Seen}
+use Rattle.honest.specs.Needed.{Need, one, M, FairAfter, BlockedArrival, Shown, AllShown, comes, startsAt1, startsAt2, startsLow, acks1, acks2, acksLow, ofSendings, ofCalls, AllowanceExact, StartExact, EachNeeded}
+use Rattle.honest.proofs.Check.{Test, both, three, yes, no, so, equal, atMost, inOrderOrOvertaken, fair, checked}
 use Rattle.honest.proofs.Instance.{demand3-view, fresh-sound}
 
 -- By computation
@@ -89,9 +89,32 @@ abbrev allShown : (l : List Need) → Test (AllShown l)
 allShown [] = yes tt
 allShown (n ∷ l) = both (so (shown n) (computes n)) (allShown l)
 
-computed : (allShown ofSendings .holds ≡ true) × (allShown ofCalls .holds ≡ true)
-unfolding if_then_else_ wrap ringPlus ringMinus nearest further sent granted endsAfter sequenceMet ackMet lifeOf withFin finsAfter openStage stageAfter sameSyn reply verdictUnanswered verdictByRanges verdictOn opened repeated answered carried reset passed finsOf stageOf firstFrom fromOpener fromAnswerer liveMatch vacant senderOf entryWith onEntry openingEntry unmatched onSegment sameFlow sentBy receivedBy highest some hasAnswer passes passedOnOurs afterCall told
-computed = (refl, refl)
+abbrev allowanceExact : Test AllowanceExact
+allowanceExact =
+    let L = reverse acksLow in
+    let last = numbersOf answerer (told M one L .history) .end in
+    both
+    (three (checked one pair (comes 3 0 acks2 ∷ L)) (equal last (acks2 .line .acked + 66000)) (equal (said M one L (brings 0 acks2) .answer) 0))
+    (three (inOrderOrOvertaken one pair 466 2 (acks1 .line) L) (equal last (acks1 .line .acked + 66001))
+    (equal (said M one L (brings 0 acks1) .answer) 15))
+
+abbrev startExact : Test StartExact
+startExact =
+    let L = reverse startsLow in
+    let received = highestAckAtSending opener 4 L in
+    both
+    (three (checked one pair (comes 3 0 startsAt2 ∷ L)) (equal received (startsAt2 .line .start)) (equal (said M one L (brings 0 startsAt2) .answer) 0))
+    (both (equal received (startsAt1 .line .start + 1)) (equal (said M one L (brings 0 startsAt1) .answer) 14))
+
+computed :
+    (allShown ofSendings .holds ≡ true) × (allShown ofCalls .holds ≡ true) × (allowanceExact .holds ≡ true) × (startExact .holds ≡ true)
+unfolding if_then_else_ wrap ringPlus ringMinus nearest further sent granted endsAfter sequenceMet ackMet lifeOf withFin finsAfter openStage stageAfter sameSyn reply verdictUnanswered verdictByRanges verdictOn opened repeated answered carried reset passed finsOf stageOf numbersOf firstFrom fromOpener fromAnswerer liveMatch vacant senderOf entryWith onEntry openingEntry unmatched onSegment sameFlow sentBy receivedBy highest some highestAckAtSending hasAnswer passes passedOnOurs afterCall told
+computed = (refl, refl, refl, refl)
 
 pub each-needed : EachNeeded
-each-needed = (allShown ofSendings .shows (computed .0), allShown ofCalls .shows (computed .1))
+each-needed = (
+  allShown ofSendings .shows (computed .0),
+  allShown ofCalls .shows (computed .1),
+  allowanceExact .shows (computed .2),
+  startExact .shows (computed .3),
+)

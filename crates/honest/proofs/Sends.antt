@@ -2,18 +2,18 @@
 use Prim.Native.Nat.{ℕ, zero, suc, _+_, _-_, _<_, _≤_, max}
 use mathlib.Core.Path.{_≡_, refl, sym, ap, subst, _∙_}
 use mathlib.Core.Logic.{_⊎_, inl, inr, ⊎-elim}
-use mathlib.Core.Bool.{Bool, true, false}
+use mathlib.Core.Bool.{Bool, true, false, and-false}
 use mathlib.Core.List.{List, [], _∷_}
 use native.Mathlib.Omega.{arith}
 use lib.Dec.{eqb}
 use lib.ListN.{length}
-use borrow.Author.Tests.{eqb-true, eqb-false}
+use borrow.Author.Tests.{eq-eqb, ne-eqb, eqb-true, eqb-false}
 use Rattle.choice.specs.Choice.{if_then_else_, _=ᵇ_}
 use Rattle.choice.proofs.Choice.{if-true, if-false, if-either, if-=, if-=-not}
 use Rattle.choice.proofs.Tests.{false-true}
 use Rattle.segment.specs.Flags.{syn, rst, ack, SYN, SYN+ACK}
 use Rattle.history.specs.History.{LineSegment, numbersOf, Formed}
-use Rattle.honest.specs.Rules.{Label, Event, send, call, delivery, Pair, sentBy, Sent, receivedBy, highest, some, ackOf, edgeOf, endOf, hasAnswer, LaterSegment, Allowed, openers-syn, answerers-syn-ack, later, any-reset}
+use Rattle.honest.specs.Rules.{Label, Event, send, call, delivery, Pair, sentBy, Sent, receivedBy, highest, some, ackOf, edgeOf, endOf, highestAckAtSending, hasAnswer, LaterSegment, Allowed, openers-syn, answerers-syn-ack, later, any-reset, MayOvertake}
 use Rattle.honest.proofs.Lists.{In, NoReset, highest-up, highest-lub, some-in, in-some, endBy-mine, windowBy-mine, edgeOf≤edgeBy, numbers-up, win-some}
 
 -- Sendings with their snapshots
@@ -60,9 +60,35 @@ module _ {Call : Type 0} where
   sent-in k p s (call q l ∷ L) sent = sent-in k p s L sent
   sent-in k p s (delivery j g ∷ L) sent = sent-in k p s L sent
 
--- none after the k-th of end i has arrived, resets left out
-abbrev pub NoneLater : (HasArrived : ℕ → LineSegment → Type 0) (i k : ℕ) → Type 0
-NoneLater HasArrived i k = (j : ℕ) (g : LineSegment) → HasArrived j g → g .from ≡ i → rst (g .flags) ≡ 0 → j ≤ k
+  -- but for a SYN, the snapshot is what its end had received
+  pub snapshot-received :
+      (k : ℕ) (p : LineSegment) (s : ℕ) (L : List (Event Call)) → SentWith k p s L → syn (p .flags) ≡ 0 →
+      s ≡ highestAckAtSending (p .from) k L
+  unfolding highestAckAtSending
+  snapshot-received k p s [] none no-syn = absurd none
+  snapshot-received k p s (send g ∷ L) sent no-syn =
+      ⊎-elim
+      (λ (now : (p ≡ g) × (k ≡ length (sentBy (g .from) L)) × (s ≡ snapshot g L)).
+      rw (now .0, now .1, now .2) (by (ap (λ (f : LineSegment). syn (f .flags)) (sym (now .0)) ∙ no-syn)))
+      (λ (before : SentWith k p s L).
+      let index = sent-in k p s L before .1 in
+      let another = ne-eqb (length (sentBy (p .from) L)) k (λ e. omega arith) in
+      snapshot-received k p s L before no-syn ∙ sym (if-false _ _ _ (rw another (and-false (g .from =ᵇ p .from)))))
+      sent
+    where
+      by : syn (g .flags) ≡ 0 → snapshot g L ≡ highestAckAtSending (g .from) (length (sentBy (g .from) L)) (send g ∷ L)
+      by none =
+          let own = eq-eqb (g .from) (g .from) refl in
+          let index = eq-eqb (length (sentBy (g .from) L)) (length (sentBy (g .from) L)) refl in
+          if-=-not _ _ (λ (e : syn (g .flags) ≡ 1). omega arith) ∙ sym (if-true _ _ _ (rw (own, index) refl))
+  snapshot-received k p s (call q l ∷ L) sent no-syn = snapshot-received k p s L sent no-syn
+  snapshot-received k p s (delivery j g ∷ L) sent no-syn = snapshot-received k p s L sent no-syn
+
+-- what has arrived of the end of p, its k-th sending, was sent no later or may overtake it, resets left out
+abbrev pub Overtaken : {Call : Type 0} (HasArrived : ℕ → LineSegment → Type 0) (allowance k : ℕ) (p : LineSegment) → List (Event Call) → Type 0
+Overtaken HasArrived allowance k p L =
+    (j : ℕ) (g : LineSegment) → HasArrived j g → g .from ≡ p .from → rst (g .flags) ≡ 0 → k < j →
+    MayOvertake allowance (highestAckAtSending (g .from) j L) g p
 
 -- an end's first segment, the opener's SYN or the answerer's SYN+ACK
 pub record FirstSegment (P : Pair) (p : LineSegment) : Type 0 where
@@ -240,6 +266,7 @@ module _ {Call : Type 0} (P : Pair) where
     pub formed : Formed p
     pub no-reset : NoReset p
     pub kind : First P p s ⊎ Later p s L
+    pub from-syn : P .start (p .from) ≤ p .start
     pub snapshot-low : s ≤ p .start
     pub acks-syn : ack (p .flags) ≡ 1 → P .start (1 - p .from) + 1 ≤ p .acked
     -- it ends at or below the edge granted by what has passed, or with its end's SYN
@@ -288,6 +315,7 @@ module _ {Call : Type 0} (P : Pair) where
           answered-now = grows .answered-still (p .from) (b .answered-now);
           heard = omega (arith, b .heard, grows .heard-more (p .from));
         }) (f .kind);
+    from-syn = f .from-syn;
     snapshot-low = f .snapshot-low;
     acks-syn = f .acks-syn;
     below-edge = omega (arith, f .below-edge, rises .edge (p .from));
@@ -364,6 +392,7 @@ module _ {Call : Type 0} (P : Pair) where
           formed = formed;
           no-reset = f .no-reset;
           kind = inl record { rule = rule; own-start = own };
+          from-syn = omega (arith, rule .start);
           snapshot-low = omega (arith, own);
           acks-syn = λ acks. omega (arith, acked acks);
           below-edge = omega (arith, f .end);
@@ -381,6 +410,7 @@ module _ {Call : Type 0} (P : Pair) where
           formed = formed;
           no-reset = λ r. omega (arith, rule .no-reset);
           kind = inr record { has-ack = rule .has-ack; no-syn = rule .no-syn; answered-now = rule .after-answer; heard = omega (arith, heard) };
+          from-syn = omega (arith, rule .starts, answered-heard h Arrived L inv (p .from) known (rule .after-answer));
           snapshot-low = omega (arith, heard, rule .starts);
           acks-syn = λ acks. rule .acks-syn;
           below-edge = omega (arith, rule .ends, heard-edges h Arrived L inv (p .from) known);

@@ -15,8 +15,8 @@ use Rattle.rows.specs.Rows.{View}
 use Rattle.rows.specs.Connections.{connections}
 use Rattle.history.specs.History.{LineSegment, stageOf}
 use Rattle.honest.specs.Machine.{refused, asks, Machine, clockIn, asksHere, bringsReset, KeepsTo}
-use Rattle.honest.specs.Rules.{Label, opening, arrival, other, Event, send, call, delivery, Pair, sentBy, Sent, Arrived, receivedBy, hasAnswer, Allowed, Honest, openers-syn, answerers-syn-ack, later, any-reset}
-use Rattle.honest.specs.Honest.{Told, passes, nextClock, afterSegment, passedOnOurs, someReset, afterElsewhere, afterCall, told, said, Live, WasPassed, Arrives, Opening, FairCall, Legal, ArrivalAsWritten, LegalAsWritten}
+use Rattle.honest.specs.Rules.{Label, opening, arrival, other, Event, send, call, delivery, Pair, sentBy, Sent, Arrived, receivedBy, highestAckAtSending, hasAnswer, Allowed, Honest, openers-syn, answerers-syn-ack, later, any-reset, overtakingAllowance}
+use Rattle.honest.specs.Honest.{Told, passes, nextClock, afterSegment, passedOnOurs, someReset, afterElsewhere, afterCall, told, said, Live, InOrderOrOvertaken, WasPassed, Arrives, Opening, FairCall, Legal, ArrivalAsWritten, LegalAsWritten}
 use Rattle.honest.specs.Instance.{ViewCall, viewMachine}
 use Rattle.honest.specs.Carries.{Carries, none, sent, called, refused-alone, delivered, LegalCarried, LegalAsWrittenCarried, withCall, withOther, readings, ifAsked, othersSaid, summaryOf, SummaryCarried}
 use Rattle.honest.proofs.Demand3.{on-ours-facts}
@@ -60,6 +60,14 @@ module _ (M : Machine) where
   arrived-carries k p (called is c) was = ⊎-elim (λ this. inl this) (λ before. inr (arrived-carries k p c before)) was
   arrived-carries k p (refused-alone is c) was = ⊎-elim (λ never. absurd never) (λ before. arrived-carries k p c before) was
   arrived-carries k p (delivered c) was = arrived-carries k p c was
+
+  highestAck-same : (i k : ℕ) {L : Carrying} {N : Carried} → Carries M L N → highestAckAtSending i k L ≡ highestAckAtSending i k N
+  unfolding highestAckAtSending
+  highestAck-same i k none = refl
+  highestAck-same i k (sent c) = rw (sentBy-same i c, receivedBy-same i c, highestAck-same i k c) refl
+  highestAck-same i k (called is c) = highestAck-same i k c
+  highestAck-same i k (refused-alone is c) = highestAck-same i k c
+  highestAck-same i k (delivered c) = highestAck-same i k c
 
   answered-same : (i : ℕ) {L : Carrying} {N : Carried} → Carries M L N → hasAnswer i L ≡ hasAnswer i N
   unfolding hasAnswer
@@ -272,6 +280,11 @@ module _ (M : Machine) (Sound : M .State → Type 0) (keeps : KeepsTo M Sound) (
         answered-0 = passes-same ∙ o .answered-0;
       }
 
+      order-carried : (allowance k : ℕ) (p : LineSegment) → InOrderOrOvertaken F allowance k p N → InOrderOrOvertaken M allowance k p L
+      order-carried allowance k p order j g was mine no-reset later-sent =
+          let o = order j g (arrived-carries M j g c was) mine no-reset later-sent in
+          record { sent-while = omega (arith, o .sent-while, highestAck-same M (g .from) j c); acks-near = o .acks-near }
+
       live-carried : Live F (told F t₀ N) b → Live M (told M s₀ L) q
       live-carried live = omega (arith, live, clock-given, clock-same, until-same)
 
@@ -282,7 +295,8 @@ module _ (M : Machine) (Sound : M .State → Type 0) (keeps : KeepsTo M Sound) (
       written-arrival-carried P k p r = record {
         after-opening = opened-same ∙ r .after-opening;
         arrives = arrives-carried P k p (r .arrives);
-        in-order = λ j g was. r .in-order j g (arrived-carries M j g c was);
+        order = order-carried overtakingAllowance k p (r .order);
+        neither-syn-nor-reset = λ j g was. r .neither-syn-nor-reset j g (arrived-carries M j g c was);
         live = live-carried (r .live);
         reset-passes = λ reset. passes-same ∙ r .reset-passes reset;
       }
@@ -292,7 +306,7 @@ module _ (M : Machine) (Sound : M .State → Type 0) (keeps : KeepsTo M Sound) (
       fair-call-carried P (arrival k p) r = record {
         after-opening = opened-same ∙ r .after-opening;
         arrives = arrives-carried P k p (r .arrives);
-        in-order = λ none j g was. r .in-order none j g (arrived-carries M j g c was);
+        order = λ none. order-carried overtakingAllowance k p (r .order none);
         live = live-carried (r .live);
         reset-passes = λ reset. passes-same ∙ r .reset-passes reset;
       }

@@ -14,7 +14,7 @@ use Rattle.rows.specs.Places.{firstFrom}
 use Rattle.rows.specs.Rows.{fromOpener, fromAnswerer, liveMatch, vacant, senderOf, entryWith, onEntry, openingEntry, unmatched, onSegment}
 use Rattle.history.specs.History.{finsOf, stageOf}
 use Rattle.honest.specs.Rules
-use Rattle.honest.specs.Rules.{sentBy, receivedBy, highest, some}
+use Rattle.honest.specs.Rules.{sentBy, receivedBy, highest, some, highestAckAtSending}
 use Rattle.honest.specs.Honest.{passes, passedOnOurs, afterCall, told, Legal, LegalAsWritten, NeverBlocked}
 use Rattle.honest.specs.Instance.{viewMachine}
 use Rattle.honest.specs.Carries.{summaryOf}
@@ -29,7 +29,7 @@ computed :
     (legal? empty pair witness ≡ true)
     × (summaryOf (viewMachine (λ p. p)) empty witness ≡ comesTo)
     × (checkedAsWritten one pair aborted .holds ≡ true)
-unfolding if_then_else_ wrap ringPlus ringMinus nearest further sent granted endsAfter sequenceMet ackMet lifeOf withFin finsAfter openStage stageAfter sameSyn reply verdictUnanswered verdictByRanges verdictOn opened repeated answered carried reset passed finsOf stageOf firstFrom fromOpener fromAnswerer liveMatch vacant senderOf entryWith onEntry openingEntry unmatched onSegment sameFlow sentBy receivedBy highest some passes passedOnOurs afterCall told Rules.hasAnswer
+unfolding if_then_else_ wrap ringPlus ringMinus nearest further sent granted endsAfter sequenceMet ackMet lifeOf withFin finsAfter openStage stageAfter sameSyn reply verdictUnanswered verdictByRanges verdictOn opened repeated answered carried reset passed finsOf stageOf firstFrom fromOpener fromAnswerer liveMatch vacant senderOf entryWith onEntry openingEntry unmatched onSegment sameFlow sentBy receivedBy highest some highestAckAtSending passes passedOnOurs afterCall told Rules.hasAnswer
 computed = (refl, refl, refl)
 
 pub witness-legal : Legal (viewMachine (λ p. p)) empty pair witness

@@ -25,11 +25,15 @@ abortedStory =
     ∷ sends (answerer's ACK 1 100 1 1000 tt)
     ∷ comes 1 10300 (answerer's ACK 1 100 1 1000 tt)
     ∷ got 1 (answerer's ACK 1 100 1 1000 tt)
-    -- then the answerer sends one, lost too, and the opener ends at the last millisecond
+    -- then the answerer sends one, lost too; what it overtook comes again, at the last millisecond
     ∷ sends answerersAbort
     ∷ comes 2 20000 answerersAbort
-    ∷ sends (opener's FIN+ACK 1 1 101 1000 tt)
-    ∷ comes 3 29999 (opener's FIN+ACK 1 1 101 1000 tt)
+    ∷ comes 1 29999 (answerer's ACK 1 100 1 1000 tt)
+    -- the opener's FIN overtakes its octets
+    ∷ sends (opener's ACK 1 10 101 1000 tt)
+    ∷ sends (opener's FIN+ACK 11 1 101 1000 tt)
+    ∷ comes 4 30000 (opener's FIN+ACK 11 1 101 1000 tt)
+    ∷ comes 3 30100 (opener's ACK 1 10 101 1000 tt)
     ∷ [])
 
 abbrev pub aborted : List Seen

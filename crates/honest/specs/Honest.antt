@@ -6,7 +6,7 @@ use mathlib.Core.Logic.{_⊎_}
 use mathlib.Core.Bool.{Bool, true, false, _&&_}
 use mathlib.Core.List.{List, [], _∷_}
 use Rattle.choice.specs.Choice.{if_then_else_, _<ᵇ_, _=ᵇ_}
-use Rattle.segment.specs.Flags.{rst, SYN, RST}
+use Rattle.segment.specs.Flags.{syn, rst, SYN, RST}
 use Rattle.connection.specs.Ends.{opener}
 use Rattle.connection.specs.Stages.{lifeOf}
 use Rattle.rows.specs.Rows.{Ask, matchOf, nowhere}
@@ -14,7 +14,7 @@ use Rattle.rows.specs.Connections.{connections}
 use Rattle.rows.specs.declared.Found.the-variants.{Nothing}
 use Rattle.history.specs.History.{LineSegment, onWire, stageOf}
 use Rattle.honest.specs.Machine.{Said, asks, Machine, clockIn, asksHere, bringsReset}
-use Rattle.honest.specs.Rules.{Label, opening, arrival, other, IsArrivalOf, Event, send, call, delivery, Pair, sideOf, keyOf, Sent, Arrived, Honest}
+use Rattle.honest.specs.Rules.{Label, opening, arrival, other, IsArrivalOf, Event, send, call, delivery, Pair, sideOf, keyOf, Sent, Arrived, highestAckAtSending, Honest, overtakingAllowance, MayOvertake}
 
 -- "An arrival is a call that brings an end's segment of this connection, its numbers modulo 2^32, with that end's side .. and a clock
 -- under 2^48." (A larger clock is refused, and asks nothing)
@@ -119,10 +119,13 @@ module _ (M : Machine) where
 
   -- "Asked of the list:"
 
-  -- "Each end's arrivals are its sendings in order, .. some left out, some several times in a row.": of end i, none after its k-th has
-  -- arrived. Resets may come in any order
-  abbrev pub InOrder : (i k : ℕ) → Events → Type 0
-  InOrder i k L = (j : ℕ) (g : LineSegment) → Arrived j g L → g .from ≡ i → rst (g .flags) ≡ 0 → j ≤ k
+  -- "Each end's arrivals are its sendings in order, .. some left out, some several times in a row.", or after being overtaken (document 02, item
+  -- 7): "every segment without RST of its sender that was sent later but arrived earlier" than p, its k-th, may overtake it. In order is the case
+  -- in which there is none
+  abbrev pub InOrderOrOvertaken : (allowance k : ℕ) (p : LineSegment) → Events → Type 0
+  InOrderOrOvertaken allowance k p L =
+      (j : ℕ) (g : LineSegment) → Arrived j g L → g .from ≡ p .from → rst (g .flags) ≡ 0 → k < j →
+      MayOvertake allowance (highestAckAtSending (g .from) j L) g p
 
   module _ (s₀ : M .State) (P : Pair) where
     -- "The opening is an arrival of the opener's SYN that finds no live match and is answered 0." The list names one
@@ -143,11 +146,12 @@ module _ (M : Machine) where
     WasPassed k p (delivery j g ∷ L) = WasPassed k p L
 
   module _ (s₀ : M .State) (P : Pair) where
-    -- an arrival after it: in order, and "At each arrival after the opening the connection is live, told from the calls"
+    -- an arrival after it: in order or overtaken, and "At each arrival after the opening the connection is live, told from the calls"
     pub record Arrival (k : ℕ) (p : LineSegment) (q : M .Call) (L : Events) : Type 0 where
       pub after-opening : told s₀ L .openingSeen ≡ true
       pub arrives : Arrives P k p q L
-      pub in-order : rst (p .flags) ≡ 0 → InOrder (p .from) k L
+      -- resets may come in any order
+      pub order : rst (p .flags) ≡ 0 → InOrderOrOvertaken overtakingAllowance k p L
       pub live : Live (told s₀ L) q
       -- "Demand 3 now allows resets .. that themselves pass" (document 02, item 6); a call with one that doesn't pass counts as any other call.
       -- From stage 2 on it gives stage 6; in stage 1 it frees, and no arrival is live after it (`until`)
@@ -195,7 +199,10 @@ module _ (M : Machine) (s₀ : M .State) (P : Pair) where
   pub record ArrivalAsWritten (k : ℕ) (p : LineSegment) (q : M .Call) (L : Events M) : Type 0 where
     pub after-opening : told M s₀ L .openingSeen ≡ true
     pub arrives : Arrives M P k p q L
-    pub in-order : (j : ℕ) (g : LineSegment) → Arrived j g L → g .from ≡ p .from → j ≤ k
+    -- "an honest segment, neither SYN nor reset, may also arrive, first or again, after being overtaken, if .." "No other arrival is out of order."
+    pub order : InOrderOrOvertaken M overtakingAllowance k p L
+    pub neither-syn-nor-reset :
+        (j : ℕ) (g : LineSegment) → Arrived j g L → g .from ≡ p .from → k < j → (syn (p .flags) ≡ 0) × (rst (p .flags) ≡ 0)
     pub live : Live M (told M s₀ L) q
     -- "that themselves pass"
     pub reset-passes : rst (p .flags) ≡ 1 → passes M (told M s₀ L) q ≡ true

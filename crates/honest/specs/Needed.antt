@@ -1,7 +1,7 @@
 -- Premises of demand 3 are needed: for each that a comment below names, a list that is legal but for one event, which breaks it, and in which
 -- an arrival is then blocked, on a fresh table of one place. That the event breaks this premise and no other is for the reader to see, not in
 -- the type: `instead`, which would have been fair, differs in one number where it can. docs/DECISIONS.md names the premises without a list.
-use Prim.Native.Nat.{ℕ, _-_, _^_}
+use Prim.Native.Nat.{ℕ, _+_, _-_, _^_}
 use mathlib.Core.Path.{_≡_}
 use mathlib.Core.List.{List, [], _∷_, _++_, reverse}
 use Rattle.segment.specs.Flags.{SYN, SYN+ACK, ACK, FIN+ACK, RST, ACK+RST}
@@ -10,8 +10,9 @@ use Rattle.rows.specs.Rows.{View}
 use Rattle.rows.specs.Connections.{connections}
 use Rattle.rows.specs.Examples.{outward}
 use Rattle.honest.specs.Machine.{Machine}
-use Rattle.honest.specs.Rules.{opening, arrival, other, send, call, delivery, Pair}
-use Rattle.honest.specs.Honest.{said, Fair, Legal}
+use Rattle.history.specs.History.{numbersOf}
+use Rattle.honest.specs.Rules.{opening, arrival, other, send, call, delivery, Pair, highestAckAtSending}
+use Rattle.honest.specs.Honest.{told, said, InOrderOrOvertaken, Fair, Legal}
 use Rattle.honest.specs.Instance.{viewMachine}
 use Rattle.honest.specs.Demand2.{fresh}
 use Rattle.honest.specs.Witness.{pair, Piece, opener's, answerer's, brings, Seen, sends, opens, arrives, delivers, uncounted}
@@ -109,6 +110,37 @@ answererAhead =
     through 1 (answerer's ACK 1 1000 1 1000 tt) ++ (through 2 (opener's ACK 1 0 1001 1000 tt)
     ++ through 2 (answerer's ACK 1001 1000 1 1000 tt))
 
+-- Two segments of the opener that another has overtaken, as they are about to come
+
+-- the one that overtook them was sent once the octet at 1 was acknowledged, and ends at 1002: bound II asks for 2 or above
+abbrev pub startsAt1 : Piece
+startsAt1 = opener's ACK 1 1 1 1000 tt
+
+abbrev pub startsAt2 : Piece
+startsAt2 = opener's ACK 2 0 1 1000 tt
+
+abbrev pub startsLow : List Seen
+startsLow =
+    handshake ++ (through 2 startsAt1
+    ++ (sends startsAt2 ∷ (through 1 (answerer's ACK 1 0 2 1000 tt)
+    ++ (sends (opener's ACK 2 1000 1 1000 tt) ∷ comes 4 0 (opener's ACK 2 1000 1 1000 tt) ∷ []))))
+
+-- it acknowledges 466 octets and grants the largest window, which the answerer fills: its end is 66002, and bound IV asks for 2 or above
+abbrev pub acks1 : Piece
+acks1 = opener's ACK 1 0 1 1000 tt
+
+abbrev pub acks2 : Piece
+acks2 = opener's ACK 1 0 2 1000 tt
+
+abbrev acks467 : Piece
+acks467 = opener's ACK 1 0 467 65535 tt
+
+abbrev pub acksLow : List Seen
+acksLow =
+    handshake ++ (through 1 (answerer's ACK 1 466 1 1000 tt)
+    ++ (sends acks1 ∷ sends acks2 ∷ (through 4 acks467
+    ++ (through 2 (answerer's ACK 467 65000 1 1000 tt) ++ through 3 (answerer's ACK 65467 535 1 1000 tt)))))
+
 abbrev need : (before : List Seen) (broken instead : Seen) (later : List Seen) (answer : ℕ) → Need
 need before broken instead later answer =
     record { pair = pair; before = before; broken = broken; instead = instead; later = later; answer = answer }
@@ -184,8 +216,11 @@ ofCalls =
     need handshake (call (brings 0 (opener's ACK 900000 0 1 1000 tt)) (arrival 1 (firstAck .line))) (comes 1 0 firstAck) [] 14
     -- "each later than its sending": before it
     ∷ need synThrough (comes 1 0 firstAck) (comes 0 0 firstSyn) [] 13
-    -- "Each end's arrivals are its sendings in order": the opener's ACK comes after what was sent later
-    ∷ need (handshake ++ openerAhead) (comes 1 0 firstAck) (comes 3 0 (opener's ACK 1001 1000 1 1000 tt)) [] 14
+    -- "in order", or overtaken by what "was sent while the highest acknowledgement that sender had received was no further than the overtaken
+    -- segment's start": it was one octet further
+    ∷ need startsLow (comes 2 0 startsAt1) (comes 3 0 startsAt2) [] 14
+    -- "and acknowledges at most 465 octets further than it": it acknowledges 466 octets further
+    ∷ need acksLow (comes 2 0 acks1) (comes 3 0 acks2) [] 15
     -- "The opening is an arrival": of a SYN that the opener hasn't sent
     ∷ need (sends firstSyn ∷ []) (opensAt 0 (opener's SYN 5 1 0 1000 tt)) (opensAt 0 firstSyn)
     (got 0 (opener's SYN 5 1 0 1000 tt) ∷ sends firstSynAck ∷ comes 0 0 firstSynAck ∷ []) 13
@@ -211,6 +246,25 @@ ofCalls =
     ∷ need (synThrough ++ (sends firstReset ∷ sends firstSynAck ∷ comes 0 0 firstReset ∷ [])) (comes 1 0 firstSynAck) (got 0 firstSyn) [] 11
     ∷ []
 
+-- Both numbers of document 02, item 7, are exact
+
+-- overtaken by 465 octets a segment is legal, and passes 66,000 below the other end's last octet; by 466 it would be legal with an allowance of
+-- 466, and is blocked
+abbrev pub AllowanceExact : Type 0
+AllowanceExact =
+    let L = reverse acksLow in
+    let last = numbersOf answerer (told M one L .history) .end in
+    (Legal M one pair (comes 3 0 acks2 ∷ L) × (last ≡ acks2 .line .acked + 66000) × (said M one L (brings 0 acks2) .answer ≡ 0))
+    × (InOrderOrOvertaken M 466 2 (acks1 .line) L × (last ≡ acks1 .line .acked + 66001) × (said M one L (brings 0 acks1) .answer ≡ 15))
+
+-- a segment that starts where the acknowledgement is that its overtaker's sender had received is legal, and passes; one octet lower it is blocked
+abbrev pub StartExact : Type 0
+StartExact =
+    let L = reverse startsLow in
+    let received = highestAckAtSending opener 4 L in
+    (Legal M one pair (comes 3 0 startsAt2 ∷ L) × (received ≡ startsAt2 .line .start) × (said M one L (brings 0 startsAt2) .answer ≡ 0))
+    × ((received ≡ startsAt1 .line .start + 1) × (said M one L (brings 0 startsAt1) .answer ≡ 14))
+
 -- The claim
 abbrev pub EachNeeded : Type 0
-EachNeeded = AllShown ofSendings × AllShown ofCalls
+EachNeeded = AllShown ofSendings × AllShown ofCalls × AllowanceExact × StartExact

@@ -104,6 +104,15 @@ edgeOf p = if ack (p .flags) =ᵇ 1 then p .acked + max (p .window) 1 else 0
 abbrev pub endOf : LineSegment → ℕ
 endOf p = p .start + p .length
 
+module _ {Call : Type 0} where
+  -- the highest acknowledgement that end i had received when it sent its k-th segment, told from the events before that sending
+  unfoldable pub highestAckAtSending : (i k : ℕ) → List (Event Call) → ℕ
+  highestAckAtSending i k [] = 0
+  highestAckAtSending i k (send p ∷ L) =
+      if (p .from =ᵇ i) && (length (sentBy i L) =ᵇ k) then highest ackOf (receivedBy i L) else highestAckAtSending i k L
+  highestAckAtSending i k (call q l ∷ L) = highestAckAtSending i k L
+  highestAckAtSending i k (delivery j p ∷ L) = highestAckAtSending i k L
+
 -- an end has an answer: the opener once it has received a SYN+ACK, the answerer once it has received an ACK
 unfoldable pub hasAnswer : {Call : Type 0} → ℕ → List (Event Call) → Bool
 hasAnswer i L =
@@ -164,3 +173,16 @@ module _ (P : Pair) {Call : Type 0} (p : LineSegment) (L : List (Event Call)) wh
   pub record Honest : Type 0 where
     pub allowed : Allowed
     pub formed : Formed p
+
+-- On the way to the filter (document 02, item 7)
+
+-- "at most 465 octets further"
+abbrev pub overtakingAllowance : ℕ
+overtakingAllowance = 465
+
+-- g, sent while highestAck was the highest acknowledgement that its sender had received, may overtake p
+pub record MayOvertake (allowance highestAck : ℕ) (g p : LineSegment) : Type 0 where
+  -- it "was sent while the highest acknowledgement that sender had received was no further than the overtaken segment's start,"
+  pub sent-while : highestAck ≤ p .start
+  -- "and acknowledges at most" the allowance "further than it"
+  pub acks-near : ackOf g ≤ ackOf p + allowance

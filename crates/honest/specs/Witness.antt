@@ -99,9 +99,13 @@ openerSends =
     ∷ opener's ACK 2011 500 101 0 tt
     -- 11: and again
     ∷ opener's ACK 2011 500 101 0 tt
-    -- 12: one octet into a zero window
+    -- 12: a reset, sent once 2511 octets are acknowledged
+    ∷ opener's RST 2511 0 0 0 tt
+    -- 13: one octet into a zero window
     ∷ opener's ACK 2511 1 101 0 tt
-    ∷ opener's FIN+ACK 2512 1 102 0 tt
+    -- 14: overtaken by the FIN
+    ∷ opener's ACK 2512 300 102 0 tt
+    ∷ opener's FIN+ACK 2812 1 102 0 tt
     ∷ []
 
 -- what the answerer sends, in order
@@ -115,15 +119,15 @@ answererSends =
     ∷ answerer's ACK 1 100 1 2510 tt
     -- 3: again, after a shrunk window and with one
     ∷ answerer's ACK 1 100 11 100 tt
-    -- 4: lost before the filter
-    ∷ answerer's ACK 101 0 2011 500 tt
-    -- 5: again; it passes and is delivered late
+    -- 4: overtaken by the next
+    ∷ answerer's ACK 101 0 1546 965 tt
+    -- 5: 465 octets further; it passes and is delivered late
     ∷ answerer's ACK 101 0 2011 500 tt
     -- 6: all up to that edge, with a zero window: by max(w, 1) the edge is 2512
     ∷ answerer's ACK 101 0 2511 0 tt
     -- 7: a FIN into the opener's zero window
     ∷ answerer's FIN+ACK 101 1 2512 65535 tt
-    ∷ answerer's ACK 102 0 2513 65535 tt
+    ∷ answerer's ACK 102 0 2813 65535 tt
     ∷ []
 
 -- the k-th sending
@@ -232,10 +236,12 @@ story =
     ∷ delivers o 8
     ∷ delivers o 6
     ∷ delivers o 8
-    -- of two acknowledgements one is lost, one passes and is not delivered yet; the opener sends again from below it
+    -- of two acknowledgements the second comes first, the first after being overtaken; neither is delivered yet, and the opener sends again from
+    -- below them
     ∷ sends (a 4)
     ∷ sends (a 5)
     ∷ arrives a 5 283000
+    ∷ arrives a 4 283050
     ∷ sends (o 9)
     ∷ arrives o 9 283100
     -- what was lost is sent again, ends exactly at the right edge, passes and is never delivered; so again
@@ -255,21 +261,30 @@ story =
     ∷ delivers a 6
     ∷ delivers a 5
     ∷ delivers a 5
-    -- a probe of one octet goes into the closed window, at the last millisecond of stage 3
+    -- again, overtaken by two segments, though its sender has received an acknowledgement of them by now
+    ∷ arrives o 9 100
+    -- a reset overtakes: it was sent after that acknowledgement, and what it overtakes comes all the same
     ∷ sends (o 12)
-    ∷ arrives o 12 432295998
-    ∷ delivers o 12
+    ∷ arrives o 12 200
+    ∷ arrives o 11 300
+    -- a probe of one octet goes into the closed window, at the last millisecond of stage 3
+    ∷ sends (o 13)
+    ∷ arrives o 13 432295998
+    ∷ delivers o 13
     -- the answerer's FIN; after another reset with FIN, which sets no bit either, it comes again
     ∷ sends (a 7)
     ∷ arrives a 7 432300000
     ∷ uncounted 432300100 (opener's RST+FIN 2512 1 0 0 tt)
     ∷ arrives a 7 432305000
     ∷ delivers a 7
-    -- the opener's, at the last millisecond of stage 4, and again at the last of stage 5
-    ∷ sends (o 13)
-    ∷ arrives o 13 435904999
-    ∷ arrives o 13 436144998
-    ∷ delivers o 13
+    -- the opener's overtakes its last octets, at the last millisecond of stage 4, and comes again at the last of stage 5
+    ∷ sends (o 14)
+    ∷ sends (o 15)
+    ∷ arrives o 15 435904999
+    ∷ arrives o 14 435904999
+    ∷ arrives o 15 436144998
+    ∷ delivers o 15
+    ∷ delivers o 14
     -- a reset once both FINs have passed, and the last acknowledgement just before its 10,000 ms are over
     ∷ uncounted 436144999 (answerer's RST 102 0 0 0 tt)
     ∷ sends (a 8)
