@@ -1,4 +1,5 @@
--- A list that is legal in document 02's own words (`LegalAsWritten`): the two ends alone, on a fresh table of one place.
+-- A list that is legal in document 02's own words (`LegalAsWritten`), with lost resets and overtaken segments: the two ends alone, on a fresh
+-- table of one place.
 use mathlib.Core.List.{List, [], _∷_, _++_, reverse}
 use Rattle.segment.specs.Flags.{ACK, FIN+ACK, RST, ACK+RST}
 use Rattle.honest.specs.Witness.{Piece, opener's, answerer's, Seen, sends}

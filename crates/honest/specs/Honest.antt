@@ -1,4 +1,4 @@
--- Demand 3 (document 01, "Honest ends"; resets by document 02, item 6): "a single claim about the list of events and not one for each call".
+-- Demand 3 (document 01, "Honest ends"; of resets and overtaken segments document 02, items 6 and 7): "a single claim about the list of events and not one for each call".
 -- Lists are newest first. Its sentences stand above what states them, in its order but for what needs another first.
 use Prim.Native.Nat.{ℕ, _+_, _≤_, _<_, max}
 use mathlib.Core.Path.{_≡_}
@@ -193,7 +193,8 @@ Demand3 M Sound =
     (s₀ : M .State) → Sound s₀ → (P : Pair) → P .side ≤ 1 → (L : List (Event (M .Call))) →
     Legal M s₀ P L → NeverBlocked M s₀ L
 
--- The same in document 02's own words, which ask for more: of resets only the ends' pass on the entry, sent "from stage 2 on", and in order too
+-- The same in document 02's own words, which ask for more: of resets only the ends' pass on the entry, sent "from stage 2 on", and neither they
+-- nor SYNs come after being overtaken
 
 module _ (M : Machine) (s₀ : M .State) (P : Pair) where
   pub record ArrivalAsWritten (k : ℕ) (p : LineSegment) (q : M .Call) (L : Events M) : Type 0 where

@@ -1,4 +1,5 @@
--- Honest ends (document 01; of resets document 02, item 6): events, what was sent, has arrived and was received, and what an end may send.
+-- Honest ends (document 01; of resets and overtaken segments document 02, items 6 and 7): events, what was sent, has arrived and was received,
+-- what an end may send, and what may overtake what on the way to the filter.
 -- In document 01's order, with its sentences above what states them. Lists are newest first: in x ∷ L, x comes after all of L. "Places here are
 -- whole numbers": segments are those of `history`, with places on the unwrapped line.
 use Prim.Native.Nat.{ℕ, _+_, _<_, _≤_, max}

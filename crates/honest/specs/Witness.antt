@@ -2,7 +2,7 @@
 -- same ports stands beside it; in each stage an arrival comes at the last millisecond of the life; once it has expired, another connection
 -- takes its place. In each stage from 2 on a reset passes, an end's or one that no end has sent, and is lost past the filter. Sequence numbers
 -- cross 2^32 both ways, with zero windows and shrunk ones, first segments of different windows, losses before the filter and after it,
--- repeats, resends, deliveries out of order, a clock set back, and other traffic, blocked and passed.
+-- repeats, resends, segments overtaken before the filter, deliveries out of order, a clock set back, and other traffic, blocked and passed.
 use Prim.Native.Nat.{ℕ, zero, suc, _+_, _-_, _^_, _≤_}
 use mathlib.Core.Path.{_≡_, refl}
 use mathlib.Core.Bool.{Bool, true, false, not, _&&_, _||_}
@@ -99,7 +99,7 @@ openerSends =
     ∷ opener's ACK 2011 500 101 0 tt
     -- 11: and again
     ∷ opener's ACK 2011 500 101 0 tt
-    -- 12: a reset, sent once 2511 octets are acknowledged
+    -- 12: a reset, sent once all before it is acknowledged
     ∷ opener's RST 2511 0 0 0 tt
     -- 13: one octet into a zero window
     ∷ opener's ACK 2511 1 101 0 tt
@@ -261,9 +261,9 @@ story =
     ∷ delivers a 6
     ∷ delivers a 5
     ∷ delivers a 5
-    -- again, overtaken by two segments, though its sender has received an acknowledgement of them by now
+    -- again, overtaken by two that were sent before its sender received that acknowledgement
     ∷ arrives o 9 100
-    -- a reset overtakes: it was sent after that acknowledgement, and what it overtakes comes all the same
+    -- a reset overtakes. It was sent after that acknowledgement; what it overtakes comes all the same
     ∷ sends (o 12)
     ∷ arrives o 12 200
     ∷ arrives o 11 300
