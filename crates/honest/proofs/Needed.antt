@@ -112,9 +112,5 @@ unfolding if_then_else_ wrap ringPlus ringMinus nearest further sent granted end
 computed = (refl, refl, refl, refl)
 
 pub each-needed : EachNeeded
-each-needed = (
-  allShown ofSendings .shows (computed .0),
-  allShown ofCalls .shows (computed .1),
-  allowanceExact .shows (computed .2),
-  startExact .shows (computed .3),
-)
+each-needed =
+    (allShown ofSendings .shows (computed .0), allShown ofCalls .shows (computed .1), allowanceExact .shows (computed .2), startExact .shows (computed .3))

@@ -78,9 +78,8 @@ module _ {Call : Type 0} where
     where
       by : syn (g .flags) ≡ 0 → snapshot g L ≡ highestAckAtSending (g .from) (length (sentBy (g .from) L)) (send g ∷ L)
       by none =
-          let own = eq-eqb (g .from) (g .from) refl in
           let index = eq-eqb (length (sentBy (g .from) L)) (length (sentBy (g .from) L)) refl in
-          if-=-not _ _ (λ (e : syn (g .flags) ≡ 1). omega arith) ∙ sym (if-true _ _ _ (rw (own, index) refl))
+          if-=-not _ _ (λ (e : syn (g .flags) ≡ 1). omega arith) ∙ sym (if-true _ _ _ (rw (eq-eqb (g .from) (g .from) refl, index) refl))
   snapshot-received k p s (call q l ∷ L) sent no-syn = snapshot-received k p s L sent no-syn
   snapshot-received k p s (delivery j g ∷ L) sent no-syn = snapshot-received k p s L sent no-syn
 
