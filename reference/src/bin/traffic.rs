@@ -4,14 +4,15 @@
 //! - `traffic expect SEED COUNT`: the program's output, by this library.
 //! - `traffic histogram SEED COUNT`: how often each answer comes, how often a
 //!   pass leaves its entry in each stage (0: freed), how many connections open
-//!   and come to stage 5, and what resets meet and what comes after them.
+//!   and come to stage 5, what resets meet and what comes after them, and which
+//!   honest arrivals were overtaken.
 //!
 //! With an odd seed the last line has no newline.
 
 use reference::table;
 use reference::trace::{read_line, LONGEST_PACKET};
 use reference::trace_run::TraceRun;
-use reference::traffic::{lines, Made, ResetCounts};
+use reference::traffic::{lines, Made, OvertakenCounts, ResetCounts};
 use std::io::{self, BufWriter, Write};
 use std::process::ExitCode;
 
@@ -44,7 +45,8 @@ fn print_histogram(seed: u64, count: usize, output: &mut impl Write) -> io::Resu
     let mut opened = 0;
     let mut resets = ResetCounts::default();
     let mut packet = [0; LONGEST_PACKET];
-    for line in lines(seed, count) {
+    let mut lines = lines(seed, count);
+    while let Some(line) = lines.next() {
         let before = run.table().to_vec();
         let given = run.line(&line);
         answers[given.answer as usize] += 1;
@@ -80,7 +82,15 @@ fn print_histogram(seed: u64, count: usize, output: &mut impl Write) -> io::Resu
     }
     writeln!(output, "connections opened: {opened}")?;
     writeln!(output, "connections come to stage 5: {closed}")?;
-    print_resets(&resets, output)
+    print_resets(&resets, output)?;
+    print_overtaken(lines.overtaken(), output)
+}
+
+fn print_overtaken(counts: &OvertakenCounts, output: &mut impl Write) -> io::Result<()> {
+    for (name, counts) in counts.named() {
+        writeln!(output, "{name}: {counts:?}")?;
+    }
+    Ok(())
 }
 
 fn print_resets(resets: &ResetCounts, output: &mut impl Write) -> io::Result<()> {

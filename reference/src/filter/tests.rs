@@ -4,6 +4,8 @@ use crate::connection::End;
 use crate::packet::{FIN, RST};
 use crate::table::ENTRY;
 
+mod overtaken;
+
 const OPENER_ADDRESS: u32 = 0x0a00_0001;
 const ANSWERER_ADDRESS: u32 = 0x0a00_0002;
 const OPENER_PORT: u16 = 1024;

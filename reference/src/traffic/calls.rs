@@ -171,6 +171,36 @@ mod tests {
         assert!(unsound.iter().all(|&count| count >= 10), "{unsound:?}");
     }
 
+    /// The overtaken arrivals of a world: first, again, and at the limits of item 7
+    /// and of both ranges.
+    fn overtaken(world: &World) -> [u64; 6] {
+        let counts = world.overtaken();
+        [
+            counts.first,
+            counts.again,
+            counts.at_start.iter().sum(),
+            counts.at_allowance.iter().sum(),
+            counts.at_lowest.iter().sum(),
+            counts.at_oldest.iter().sum(),
+        ]
+    }
+
+    /// In runs this short, and with packets longer than a line's.
+    #[test]
+    fn overtaken_arrivals() {
+        let mut sums = [0; 6];
+        let mut calls = calls(1, 100_000);
+        while calls.next().is_some() {
+            if calls.rest == 0 {
+                let counts = overtaken(&calls.world);
+                sums = std::array::from_fn(|at| sums[at] + counts[at]);
+            }
+        }
+        let least = [500, 500, 400, 300, 100, 20];
+        let enough = sums.iter().zip(least).all(|(&sum, least)| sum > least);
+        assert!(enough, "{sums:?}");
+    }
+
     /// What only a table filled up to its last place can show.
     #[derive(Clone, Copy, Debug, PartialEq, Eq, PartialOrd, Ord)]
     enum AtTheEnd {

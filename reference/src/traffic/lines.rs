@@ -2,6 +2,7 @@
 //! its reader refuses.
 
 use super::draft::LONGEST_HEADERS;
+use super::overtaken::OvertakenCounts;
 use super::random::Random;
 use super::world::World;
 use crate::trace::{write_line, LONGEST_LINE, LONGEST_PACKET};
@@ -45,6 +46,11 @@ impl Iterator for Lines {
 }
 
 impl Lines {
+    /// The overtaken arrivals in the lines so far.
+    pub fn overtaken(&self) -> &OvertakenCounts {
+        self.world.overtaken()
+    }
+
     fn legal(&mut self) -> Vec<u8> {
         let arrival = self.world.next_arrival();
         let mut line = vec![0; LONGEST_LINE];
@@ -198,6 +204,29 @@ mod tests {
         assert!(each.concat().iter().all(|&count| count >= 20), "{counts:?}");
         // Never to stage 2.
         assert_eq!(counts.returned[..3], [0; 3]);
+    }
+
+    /// Arrivals that the world checks never to be blocked: of every kind that item
+    /// 7 of document 02 adds, and at both its limits.
+    #[test]
+    fn overtaken_arrivals() {
+        let mut lines = lines(1, 100_000);
+        lines.by_ref().for_each(drop);
+        let counts = lines.overtaken();
+        let each: [(&[u64], u64); 8] = [
+            (&[counts.first, counts.again], 1_000),
+            (&[counts.again_after_several], 500),
+            (&counts.data_by_fin, 15),
+            (&counts.by_reset, 400),
+            (&counts.at_start, 120),
+            // A window under 465 octets hardly ever leads to the allowance.
+            (&counts.at_allowance[1..], 80),
+            (&counts.at_lowest, 10),
+            (&counts.at_oldest, 12),
+        ];
+        for (counts, least) in each {
+            assert!(counts.iter().all(|&count| count > least), "{each:?}");
+        }
     }
 
     #[test]

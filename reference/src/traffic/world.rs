@@ -1,12 +1,13 @@
 //! Traffic over one table, fresh or filled at first: honest connections, and
 //! between them probes at the bounds, spoilt and damaged packets, floods,
 //! strangers and resets. No end ever gets a reset: they are lost past the filter
-//! and repeated, and the honest ends go on (document 02, item 6). The table is
-//! kept as this library's filter leaves it, so that the next packets can be
-//! aimed.
+//! and repeated, and the honest ends go on (document 02, item 6). Honest segments
+//! overtake each other, and resets overtake them (item 7). The table is kept as
+//! this library's filter leaves it, so that the next packets can be aimed.
 
 use super::draft::{spoil, Draft};
 use super::honest::Link;
+use super::overtaken::OvertakenCounts;
 use super::random::Random;
 use super::tables::{fill, vacate};
 use super::tcp_sums::spoil_tcp_sum;
@@ -45,6 +46,8 @@ pub struct World {
     flood: usize,
     /// The longest payload of a segment.
     longest: usize,
+    /// Of sheltered connections: what is asserted never to be blocked.
+    overtaken: OvertakenCounts,
 }
 
 impl World {
@@ -64,6 +67,7 @@ impl World {
             resets: Vec::new(),
             flood: 0,
             longest,
+            overtaken: OvertakenCounts::default(),
         }
     }
 
@@ -104,6 +108,11 @@ impl World {
     /// The table before the next call.
     pub fn table(&self) -> &[u8] {
         &self.table
+    }
+
+    /// The overtaken arrivals so far.
+    pub fn overtaken(&self) -> &OvertakenCounts {
+        &self.overtaken
     }
 
     /// The next call; the table is then as the call leaves it.
@@ -194,6 +203,7 @@ impl World {
             return None;
         }
         if is_reset {
+            self.tell_of_reset(place, arrival.side);
             self.keep_reset(&arrival);
             return Some(arrival);
         }
@@ -201,6 +211,15 @@ impl World {
         self.links
             .retain(|link| !link.sheltered || link.place != Some(place));
         Some(arrival)
+    }
+
+    /// What passes on a link's entry is a segment of its ends, so this reset is the
+    /// last that the end of that side sent. A link's opener is on side 0.
+    fn tell_of_reset(&mut self, place: u32, side: u8) {
+        let link = self.links.iter_mut().find(|link| link.place == Some(place));
+        if let Some(link) = link {
+            link.reset_passed(usize::from(side));
+        }
     }
 
     /// Keeps a passed reset for its repetition, in the place of another one if
@@ -221,22 +240,24 @@ impl World {
 
     /// The next arrival of a link, which is kept unless it is over.
     fn arrive(&mut self, mut link: Link) -> Arrival {
-        let (sender, sending) = link.next_arrival(self.longest, &mut self.random);
-        let draft = link.draft(sender, &sending);
+        let (sender, reaching) = link.next_arrival(self.longest, &mut self.random);
+        let draft = link.draft(sender, &reaching.sending);
         let arrival = Arrival {
             side: sender as u8,
             clock: self.honest_clock(&link),
             packet: draft.packet(&mut self.random),
         };
         let was_live = is_live(&self.table, &link, arrival.clock);
+        let held = entry_of(&self.table, &link).unwrap_or_default().connection;
         let opens = link.place.is_none() && self.finds_no_match(&arrival, &link.names);
         let (answer, place) = self.call(&arrival);
         if was_live && link.sheltered {
             assert_eq!(
                 (answer, Some(place)),
                 (PASSED, link.place),
-                "honest ends are never blocked: {draft:?}"
+                "honest ends are never blocked: {draft:?}, {reaching:?}"
             );
+            self.overtaken.count(&held, sender, &reaching);
         }
         if answer == PASSED && opens {
             link.place = Some(place);
@@ -245,7 +266,7 @@ impl World {
         // Once its entry is gone a link is over, even if its SYN opened another.
         let lives = was_live || opens;
         if answer == PASSED && lives {
-            link.passed(sender, &sending);
+            link.passed(sender, &reaching.sending);
         }
         let over = link.place.is_some() && !lives || link.is_given_up() || self.is_closed(&link);
         if !over {
