@@ -22,7 +22,7 @@ use Rattle.history.proofs.Verdict.{Unanswered, Answered, spans, judged-answered
 use Rattle.history.proofs.Pass.{carried-holds, carried-answered, repeated-holds, repeated-unanswered, answered-holds, answered-answered, answerer-begins}
 use Rattle.honest.specs.Rules.{Event, Pair, overtakingAllowance}
 use Rattle.honest.proofs.Lists.{NoReset}
-use Rattle.honest.proofs.Sends.{SentWith, Overtaken, First, Fact, Protocol, rises-more}
+use Rattle.honest.proofs.Sends.{SentWith, InOrderAmong, First, Fact, Protocol, rises-more}
 use Rattle.honest.proofs.Bounds as Bounds
 
 -- What a pass that does not free leaves of side and deadline
@@ -78,14 +78,14 @@ module _
 
   -- from stage 2 on
   module _
-      (overtaken : Overtaken Arrived overtakingAllowance k p L) (a : Answered h)
+      (ordered : InOrderAmong Arrived overtakingAllowance k p L) (a : Answered h)
       (begun : (i : ℕ) → i < 2 → P .start i + 1 ≤ numbersOf i h .end) where
     -- the allowance is what the range has past the largest window
     fits : widest + overtakingAllowance ≤ ackRange
     fits = omega arith
 
     b : Bounds.InBounds h p
-    b = Bounds.in-bounds P h Arrived L inv overtakingAllowance k p s sent no-reset overtaken fits a begun
+    b = Bounds.in-bounds P h Arrived L inv overtakingAllowance k p s sent no-reset ordered fits a begun
 
     near : Near (numbersOf (p .from) h .end) (p .start)
     near =
@@ -150,6 +150,6 @@ module _
                 omega (arith, end, x .rule .start)
             begun-both answerer (suc (suc i)) known = absurd (omega arith)
 
-  pub passing : Overtaken Arrived overtakingAllowance k p L → Heard P h → Passing
-  passing overtaken (quiet u begun) = first-passing u begun
-  passing overtaken (both a begun) = later-passing overtaken a begun
+  pub passing : InOrderAmong Arrived overtakingAllowance k p L → Heard P h → Passing
+  passing ordered (quiet u begun) = first-passing u begun
+  passing ordered (both a begun) = later-passing ordered a begun

@@ -19,7 +19,7 @@ use Rattle.history.proofs.Step.{Spans}
 use Rattle.history.proofs.Verdict.{Unanswered, Answered, spans}
 use Rattle.honest.specs.Rules.{Event, Pair, highest, ackOf, endOf, highestAckAtSending, hasAnswer}
 use Rattle.honest.proofs.Lists.{In, NoReset, highest-lub, endBy-mine, numbers-up, end-lub}
-use Rattle.honest.proofs.Sends.{SentWith, snapshot-received, Overtaken, ackFrom, Later, First, Fact, Protocol, FirstFacts, first-facts, answered-in, passed-sent}
+use Rattle.honest.proofs.Sends.{SentWith, snapshot-received, InOrderAmong, ackFrom, Later, First, Fact, Protocol, FirstFacts, first-facts, answered-in, passed-sent}
 
 pub record InBounds (h : List LineSegment) (p : LineSegment) : Type 0 where
   pub I : endOf p ≤ numbersOf (p .from) h .edge
@@ -33,7 +33,7 @@ module _
     (inv : Protocol P h Arrived L) where
   module _
       (allowance k : ℕ) (p : LineSegment) (s : ℕ) (sent : SentWith k p s L) (no-reset : NoReset p)
-      (overtaken : Overtaken Arrived allowance k p L) where
+      (ordered : InOrderAmong Arrived allowance k p L) where
     fact : Fact P h p s L
     fact = inv .facts k p s sent no-reset
 
@@ -46,7 +46,7 @@ module _
         let f = inv .facts (a .0) g (a .1) (a .3) none in
         ⊎-elim
         (λ (later-sent : k < a .0).
-        let o = overtaken (a .0) g (a .2) same (omega (arith, none)) later-sent in (
+        let o = ordered (a .0) g (a .2) same (omega (arith, none)) later-sent in (
           a .1,
           f,
           first-or-later (a .0) g (a .1) (a .3) same f (omega (arith, o .sent-while)),
@@ -101,10 +101,10 @@ module _
       bound-III acks = omega (arith, fact .acks-passed acks, begun-theirs)
 
       -- where each acknowledgement of this end that has passed is further by the allowance at most, so is the highest
-      acks-near :
+      highest-ack-near :
           ((g : LineSegment) → In g h → NoReset g → g .from ≡ p .from → ack (g .flags) ≡ 1 → g .acked ≤ p .acked + allowance) →
           highest (ackFrom (p .from)) h ≤ p .acked + allowance
-      acks-near each =
+      highest-ack-near each =
           highest-lub (ackFrom (p .from)) _ h (λ g there none. by g there none (eqb (g .from) (p .from)) refl (eqb (ack (g .flags)) 1) refl)
         where
           by :
@@ -132,7 +132,7 @@ module _
 
       bound-IV : ack (p .flags) ≡ 1 → numbersOf (1 - p .from) h .end ≤ p .acked + ackRange
       bound-IV acks =
-          ack-in-range widest ackRange fits (F .win-most) (acks-near (λ g there none same acks'. admitted g there none same .3 acks' acks)) acks
+          ack-in-range widest ackRange fits (F .win-most) (highest-ack-near (λ g there none same acks'. admitted g there none same .3 acks' acks)) acks
 
       judged-pass : judge h p ≡ Pass
       unfolding judge

@@ -1,6 +1,6 @@
 -- A list of events over the rows can be checked to be legal by computation.
 use Prim.Native.Nat.{ℕ, _+_, _-_, _<_, _≤_, max}
-use mathlib.Core.Path.{_≡_, refl, sym, subst, _∙_}
+use mathlib.Core.Path.{_≡_, refl, sym, ap, subst, _∙_}
 use mathlib.Core.Logic.{_⊎_, inl, inr, ⊎-elim}
 use mathlib.Core.Bool.{Bool, true, false, _&&_, _||_, not}
 use mathlib.Core.List.{List, [], _∷_}
@@ -254,6 +254,7 @@ module _ (t₀ : View connections) (P : Pair) where
   inOrderOrOvertaken allowance k p L =
       so (λ h j g was mine none later-sent.
       let o = h j g was mine none (omega (arith, later-sent)) in
+      let same : highestAckAtSending (g .from) j L ≡ highestAckAtSending (p .from) j L = ap (λ (i : ℕ). highestAckAtSending i j L) mine in
       record { sent-while = omega (arith, o .sent-while); acks-near = omega (arith, o .acks-near) })
       (everyArrived (λ j g. g .from ≡ p .from → rst (g .flags) ≡ 0 → k < j → MayOvertake allowance (highestAckAtSending (g .from) j L) g p)
       (λ j g. ifEqual (g .from) (p .from) (ifEqual (rst (g .flags)) 0

@@ -25,7 +25,7 @@ use Rattle.connection.proofs.Stages.{lifeOf-outside}
 use Rattle.history.proofs.Pass.{reset-freed, reset-answered, reset-holds, opened-unanswered, opened-holds, opener-begins}
 use Rattle.honest.specs.Sound.{SoundView}
 use Rattle.honest.specs.Machine.{Reading, refused, asks, apart, Machine, clockIn, asksHere, bringsReset, KeepsTo}
-use Rattle.honest.specs.Rules.{Label, opening, arrival, other, Event, send, call, delivery, Pair, sideOf, keyOf, Sent, Arrived, receivedBy, Honest}
+use Rattle.honest.specs.Rules.{Label, opening, arrival, other, Event, send, call, delivery, Pair, sideOf, keyOf, Sent, Arrived, receivedBy, highestAckAtSending, Honest}
 use Rattle.honest.specs.Honest.{Told, passes, nextClock, afterSegment, passedOnOurs, someReset, afterElsewhere, afterCall, told, said, Live, WasPassed, bringing, Opening, Arrival, FairCall, Legal, NeverBlocked, Demand3}
 use Rattle.honest.proofs.Lists.{In, NoReset}
 use Rattle.honest.proofs.Sends.{SentWith, sent-with, sending, First, Later, Fact, Protocol, answered-in, protocol-sent, protocol-delivered, protocol-called, protocol-passed, protocol-reset, rises-more}
@@ -542,6 +542,7 @@ module _ (M : Machine) (Sound : M .State → Type 0) (keeps : KeepsTo M Sound) (
         passing P (told M s₀ L .history) (λ j g. Arrived j g L) L (inv .protocol) c (al .holds) k p (w .0) (w .1) no-reset
         (λ j g was mine none later-sent.
         let o = r .order (omega (arith, no-reset)) j g was mine none (omega (arith, later-sent)) in
+        let same : highestAckAtSending (g .from) j L ≡ highestAckAtSending (p .from) j L = ap (λ (i : ℕ). highestAckAtSending i j L) mine in
         record { sent-while = omega (arith, o .sent-while); acks-near = omega (arith, o .acks-near) })
         (al .heard) in (
           answer-is-0 (told M s₀ L) (inv .table) q p a (r .arrives .brings) refl asked-p no-reset c al (r .live) (x .verdict),

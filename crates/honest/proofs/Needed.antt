@@ -8,6 +8,7 @@ use Rattle.choice.specs.Choice.{if_then_else_, _=ᵇ_}
 use Rattle.serial.specs.Ring.{wrap, ringPlus, ringMinus, nearest}
 use Rattle.serial.specs.Serial.{further}
 use Rattle.address.specs.Flows.{sameFlow}
+use Rattle.segment.specs.Flags.{ACK}
 use Rattle.connection.specs.Ends.{opener, answerer, sent, granted, endsAfter}
 use Rattle.connection.specs.Ranges.{sequenceMet, ackMet}
 use Rattle.connection.specs.Stages.{lifeOf, withFin, finsAfter, openStage, stageAfter}
@@ -15,11 +16,11 @@ use Rattle.connection.specs.Decision.{sameSyn, reply, verdictUnanswered, verdic
 use Rattle.rows.specs.Places.{firstFrom}
 use Rattle.rows.specs.Rows.{fromOpener, fromAnswerer, liveMatch, vacant, senderOf, entryWith, onEntry, openingEntry, unmatched, onSegment}
 use Rattle.history.specs.History.{numbersOf, finsOf, stageOf}
-use Rattle.honest.specs.Rules.{opening, arrival, other, send, call, delivery, Pair, sentBy, receivedBy, highest, some, highestAckAtSending, hasAnswer}
+use Rattle.honest.specs.Rules.{opening, arrival, other, send, call, delivery, Pair, sentBy, receivedBy, highest, some, highestAckAtSending, hasAnswer, overtakingAllowance}
 use Rattle.honest.specs.Honest.{passes, passedOnOurs, afterCall, told, said, Fair, Legal, NeverBlocked}
-use Rattle.honest.specs.Witness.{pair, brings, Seen}
+use Rattle.honest.specs.Witness.{pair, openerLine, brings, Seen}
 use Rattle.honest.specs.Needed.{Need, one, M, FairAfter, BlockedArrival, Shown, AllShown, comes, startsAt1, startsAt2, startsLow, acks1, acks2, acksLow, ofSendings, ofCalls, AllowanceExact, StartExact, EachNeeded}
-use Rattle.honest.proofs.Check.{Test, both, three, yes, no, so, equal, atMost, inOrderOrOvertaken, fair, checked}
+use Rattle.honest.proofs.Check.{Test, both, three, yes, no, so, equal, atMost, inOrderOrOvertaken, fair, checked, checkedAsWritten}
 use Rattle.honest.proofs.Instance.{demand3-view, fresh-sound}
 
 -- By computation
@@ -92,10 +93,11 @@ allShown (n ∷ l) = both (so (shown n) (computes n)) (allShown l)
 abbrev allowanceExact : Test AllowanceExact
 allowanceExact =
     let L = reverse acksLow in
-    let last = numbersOf answerer (told M one L .history) .end in
+    let theirEnd = numbersOf answerer (told M one L .history) .end in
     both
-    (three (checked one pair (comes 3 0 acks2 ∷ L)) (equal last (acks2 .line .acked + 66000)) (equal (said M one L (brings 0 acks2) .answer) 0))
-    (three (inOrderOrOvertaken one pair 466 2 (acks1 .line) L) (equal last (acks1 .line .acked + 66001))
+    (three (checkedAsWritten one pair (comes 3 0 acks2 ∷ L)) (equal theirEnd (acks2 .line .acked + 66000))
+    (equal (said M one L (brings 0 acks2) .answer) 0))
+    (three (inOrderOrOvertaken one pair 466 2 (acks1 .line) L) (equal theirEnd (acks1 .line .acked + 66001))
     (equal (said M one L (brings 0 acks1) .answer) 15))
 
 abbrev startExact : Test StartExact
@@ -103,8 +105,10 @@ startExact =
     let L = reverse startsLow in
     let received = highestAckAtSending opener 4 L in
     both
-    (three (checked one pair (comes 3 0 startsAt2 ∷ L)) (equal received (startsAt2 .line .start)) (equal (said M one L (brings 0 startsAt2) .answer) 0))
-    (both (equal received (startsAt1 .line .start + 1)) (equal (said M one L (brings 0 startsAt1) .answer) 14))
+    (three (checkedAsWritten one pair (comes 3 0 startsAt2 ∷ L)) (equal received (startsAt2 .line .start))
+    (equal (said M one L (brings 0 startsAt2) .answer) 0))
+    (three (inOrderOrOvertaken one pair overtakingAllowance 2 (openerLine ACK 2 1 1 1000) L) (equal received (startsAt1 .line .start + 1))
+    (equal (said M one L (brings 0 startsAt1) .answer) 14))
 
 computed :
     (allShown ofSendings .holds ≡ true) × (allShown ofCalls .holds ≡ true) × (allowanceExact .holds ≡ true) × (startExact .holds ≡ true)

@@ -83,9 +83,9 @@ module _ {Call : Type 0} where
   snapshot-received k p s (call q l ∷ L) sent no-syn = snapshot-received k p s L sent no-syn
   snapshot-received k p s (delivery j g ∷ L) sent no-syn = snapshot-received k p s L sent no-syn
 
--- what has arrived of the end of p, its k-th sending, was sent no later or may overtake it, resets left out
-abbrev pub Overtaken : {Call : Type 0} (HasArrived : ℕ → LineSegment → Type 0) (allowance k : ℕ) (p : LineSegment) → List (Event Call) → Type 0
-Overtaken HasArrived allowance k p L =
+-- the premise on order, over what has arrived
+abbrev pub InOrderAmong : {Call : Type 0} (HasArrived : ℕ → LineSegment → Type 0) (allowance k : ℕ) (p : LineSegment) → List (Event Call) → Type 0
+InOrderAmong HasArrived allowance k p L =
     (j : ℕ) (g : LineSegment) → HasArrived j g → g .from ≡ p .from → rst (g .flags) ≡ 0 → k < j →
     MayOvertake allowance (highestAckAtSending (g .from) j L) g p
 

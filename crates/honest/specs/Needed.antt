@@ -11,11 +11,11 @@ use Rattle.rows.specs.Connections.{connections}
 use Rattle.rows.specs.Examples.{outward}
 use Rattle.honest.specs.Machine.{Machine}
 use Rattle.history.specs.History.{numbersOf}
-use Rattle.honest.specs.Rules.{opening, arrival, other, send, call, delivery, Pair, highestAckAtSending}
-use Rattle.honest.specs.Honest.{told, said, InOrderOrOvertaken, Fair, Legal}
+use Rattle.honest.specs.Rules.{opening, arrival, other, send, call, delivery, Pair, highestAckAtSending, overtakingAllowance}
+use Rattle.honest.specs.Honest.{told, said, InOrderOrOvertaken, Fair, Legal, LegalAsWritten}
 use Rattle.honest.specs.Instance.{viewMachine}
 use Rattle.honest.specs.Demand2.{fresh}
-use Rattle.honest.specs.Witness.{pair, Piece, opener's, answerer's, brings, Seen, sends, opens, arrives, delivers, uncounted}
+use Rattle.honest.specs.Witness.{pair, Piece, openerLine, opener's, answerer's, brings, Seen, sends, opens, arrives, delivers, uncounted}
 
 -- What a list shows; its parts are told oldest first
 pub record Need : Type 0 where
@@ -246,24 +246,26 @@ ofCalls =
     ∷ need (synThrough ++ (sends firstReset ∷ sends firstSynAck ∷ comes 0 0 firstReset ∷ [])) (comes 1 0 firstSynAck) (got 0 firstSyn) [] 11
     ∷ []
 
--- Both numbers of document 02, item 7, are exact
+-- Both limits of document 02, item 7, are exact, in its own words too
 
--- overtaken by 465 octets a segment is legal, and passes 66,000 below the other end's last octet; by 466 it would be legal with an allowance of
--- 466, and is blocked
+-- a segment overtaken by one that acknowledges 465 octets further is legal, and passes 66,000 below the other end's end; one for which it is 466
+-- would be in order with an allowance of 466, and is blocked
 abbrev pub AllowanceExact : Type 0
 AllowanceExact =
     let L = reverse acksLow in
-    let last = numbersOf answerer (told M one L .history) .end in
-    (Legal M one pair (comes 3 0 acks2 ∷ L) × (last ≡ acks2 .line .acked + 66000) × (said M one L (brings 0 acks2) .answer ≡ 0))
-    × (InOrderOrOvertaken M 466 2 (acks1 .line) L × (last ≡ acks1 .line .acked + 66001) × (said M one L (brings 0 acks1) .answer ≡ 15))
+    let theirEnd = numbersOf answerer (told M one L .history) .end in
+    (LegalAsWritten M one pair (comes 3 0 acks2 ∷ L) × (theirEnd ≡ acks2 .line .acked + 66000) × (said M one L (brings 0 acks2) .answer ≡ 0))
+    × (InOrderOrOvertaken M 466 2 (acks1 .line) L × (theirEnd ≡ acks1 .line .acked + 66001) × (said M one L (brings 0 acks1) .answer ≡ 15))
 
--- a segment that starts where the acknowledgement is that its overtaker's sender had received is legal, and passes; one octet lower it is blocked
+-- a segment that starts at the highest acknowledgement that its sender had received when it sent the one that overtook it is legal, and passes; one
+-- that starts one octet lower would be in order one octet higher, and is blocked
 abbrev pub StartExact : Type 0
 StartExact =
     let L = reverse startsLow in
     let received = highestAckAtSending opener 4 L in
-    (Legal M one pair (comes 3 0 startsAt2 ∷ L) × (received ≡ startsAt2 .line .start) × (said M one L (brings 0 startsAt2) .answer ≡ 0))
-    × ((received ≡ startsAt1 .line .start + 1) × (said M one L (brings 0 startsAt1) .answer ≡ 14))
+    (LegalAsWritten M one pair (comes 3 0 startsAt2 ∷ L) × (received ≡ startsAt2 .line .start) × (said M one L (brings 0 startsAt2) .answer ≡ 0))
+    × (InOrderOrOvertaken M overtakingAllowance 2 (openerLine ACK 2 1 1 1000) L
+    × (received ≡ startsAt1 .line .start + 1) × (said M one L (brings 0 startsAt1) .answer ≡ 14))
 
 -- The claim
 abbrev pub EachNeeded : Type 0

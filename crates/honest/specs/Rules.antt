@@ -85,7 +85,8 @@ module _ {Call : Type 0} where
 -- "nothing in a reset counts as received" (document 02, item 6), and among an end's sendings its acknowledgement doesn't count either: both
 -- of the following leave resets out
 
--- the highest of a number over segments, 0 over none: an end that may send a later segment has received one (`after-answer`)
+-- the highest of a number over segments, 0 over none: an end that may send a later segment has received one (`after-answer`), and of a SYN that
+-- overtakes 0 is past no start
 unfoldable pub highest : (LineSegment → ℕ) → List LineSegment → ℕ
 highest f [] = 0
 highest f (p ∷ l) = if isReset (p .flags) then highest f l else max (f p) (highest f l)
@@ -106,7 +107,8 @@ abbrev pub endOf : LineSegment → ℕ
 endOf p = p .start + p .length
 
 module _ {Call : Type 0} where
-  -- the highest acknowledgement that end i had received when it sent its k-th segment, told from the events before that sending
+  -- the highest acknowledgement that end i had received when it sent its k-th segment, told from the events before that sending. 0 if it has sent
+  -- none such; what has arrived was sent
   unfoldable pub highestAckAtSending : (i k : ℕ) → List (Event Call) → ℕ
   highestAckAtSending i k [] = 0
   highestAckAtSending i k (send p ∷ L) =

@@ -1,7 +1,7 @@
 -- A legal list, so that demand 3 says something: one connection, from the opening to both FINs and its end. An expired entry of the
 -- same ports stands beside it; in each stage an arrival comes at the last millisecond of the life; once it has expired, another connection
 -- takes its place. In each stage from 2 on a reset passes, an end's or one that no end has sent, and is lost past the filter. Sequence numbers
--- cross 2^32 both ways, with zero windows and shrunk ones, first segments of different windows, losses before the filter and after it,
+-- cross 2^32 both ways, with zero windows and shrunk ones, first segments of different windows, a loss before the filter and losses after it,
 -- repeats, resends, segments overtaken before the filter, deliveries out of order, a clock set back, and other traffic, blocked and passed.
 use Prim.Native.Nat.{ℕ, zero, suc, _+_, _-_, _^_, _≤_}
 use mathlib.Core.Path.{_≡_, refl}
@@ -236,8 +236,8 @@ story =
     ∷ delivers o 8
     ∷ delivers o 6
     ∷ delivers o 8
-    -- of two acknowledgements the second comes first, the first after being overtaken; neither is delivered yet, and the opener sends again from
-    -- below them
+    -- of two acknowledgements the first comes after being overtaken, and is never delivered; the second is not delivered yet, and the opener sends
+    -- again from below it
     ∷ sends (a 4)
     ∷ sends (a 5)
     ∷ arrives a 5 283000
