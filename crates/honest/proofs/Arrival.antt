@@ -77,9 +77,7 @@ module _
     pub heard-after : Heard P (p ∷ h)
 
   -- from stage 2 on
-  module _
-      (ordered : InOrderAmong Arrived overtakingAllowance k p L) (a : Answered h)
-      (begun : (i : ℕ) → i < 2 → P .start i + 1 ≤ numbersOf i h .end) where
+  module _ (ordered : InOrderAmong Arrived overtakingAllowance k p L) (a : Answered h) (begun : (i : ℕ) → i < 2 → P .start i + 1 ≤ numbersOf i h .end) where
     -- the allowance is what the range has past the largest window
     fits : widest + overtakingAllowance ≤ ackRange
     fits = omega arith

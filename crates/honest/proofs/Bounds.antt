@@ -88,16 +88,16 @@ module _
       begun-theirs : P .start (1 - p .from) + 1 ≤ numbersOf (1 - p .from) h .end
       begun-theirs = begun (1 - p .from) (omega (arith, fact .end-known))
 
-      bound-I : endOf p ≤ numbersOf (p .from) h .edge
+      pub bound-I : endOf p ≤ numbersOf (p .from) h .edge
       bound-I = omega (arith, fact .below-edge, begun-mine, F .ordered)
 
-      bound-II : numbersOf (p .from) h .end ≤ p .start + numbersOf (1 - p .from) h .win
+      pub bound-II : numbersOf (p .from) h .end ≤ p .start + numbersOf (1 - p .from) h .win
       bound-II = end-lub (p .from) _ h (λ g there mine none.
           let a = admitted g there none mine in
           let window : numbersOf (1 - g .from) h .win ≡ numbersOf (1 - p .from) h .win = ap (λ (j : ℕ). numbersOf (1 - j) h .win) mine in
           omega (arith, a .1 .in-window, a .2))
 
-      bound-III : ack (p .flags) ≡ 1 → p .acked ≤ numbersOf (1 - p .from) h .end
+      pub bound-III : ack (p .flags) ≡ 1 → p .acked ≤ numbersOf (1 - p .from) h .end
       bound-III acks = omega (arith, fact .acks-passed acks, begun-theirs)
 
       -- where each acknowledgement of this end that has passed is further by the allowance at most, so is the highest
@@ -130,11 +130,11 @@ module _
           let begins : P .start (g .from) ≡ P .start (1 - p .from) = ap (P .start) other in
           omega (arith, f .in-window, f .snapshot-passed, fact .acks-syn acks))
 
-      bound-IV : ack (p .flags) ≡ 1 → numbersOf (1 - p .from) h .end ≤ p .acked + ackRange
+      pub bound-IV : ack (p .flags) ≡ 1 → numbersOf (1 - p .from) h .end ≤ p .acked + ackRange
       bound-IV acks =
           ack-in-range widest ackRange fits (F .win-most) (highest-ack-near (λ g there none same acks'. admitted g there none same .3 acks' acks)) acks
 
-      judged-pass : judge h p ≡ Pass
+      pub judged-pass : judge h p ≡ Pass
       unfolding judge
       judged-pass =
           let later : stageOf h ≡ 1 → ⊥ = λ (e : stageOf h ≡ 1). omega (arith, both-heard .stage) in

@@ -94,8 +94,7 @@ abbrev allowanceExact : Test AllowanceExact
 allowanceExact =
     let L = reverse acksLow in
     let theirEnd = numbersOf answerer (told M one L .history) .end in
-    both
-    (three (checkedAsWritten one pair (comes 3 0 acks2 ∷ L)) (equal theirEnd (acks2 .line .acked + 66000))
+    both (three (checkedAsWritten one pair (comes 3 0 acks2 ∷ L)) (equal theirEnd (acks2 .line .acked + 66000))
     (equal (said M one L (brings 0 acks2) .answer) 0))
     (three (inOrderOrOvertaken one pair 466 2 (acks1 .line) L) (equal theirEnd (acks1 .line .acked + 66001))
     (equal (said M one L (brings 0 acks1) .answer) 15))
@@ -104,8 +103,7 @@ abbrev startExact : Test StartExact
 startExact =
     let L = reverse startsLow in
     let received = highestAckAtSending opener 4 L in
-    both
-    (three (checkedAsWritten one pair (comes 3 0 startsAt2 ∷ L)) (equal received (startsAt2 .line .start))
+    both (three (checkedAsWritten one pair (comes 3 0 startsAt2 ∷ L)) (equal received (startsAt2 .line .start))
     (equal (said M one L (brings 0 startsAt2) .answer) 0))
     (three (inOrderOrOvertaken one pair overtakingAllowance 2 (openerLine ACK 2 1 1 1000) L) (equal received (startsAt1 .line .start + 1))
     (equal (said M one L (brings 0 startsAt1) .answer) 14))

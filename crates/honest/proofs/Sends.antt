@@ -71,8 +71,7 @@ module _ {Call : Type 0} where
       (λ (now : (p ≡ g) × (k ≡ length (sentBy (g .from) L)) × (s ≡ snapshot g L)).
       rw (now .0, now .1, now .2) (by (ap (λ (f : LineSegment). syn (f .flags)) (sym (now .0)) ∙ no-syn)))
       (λ (before : SentWith k p s L).
-      let index = sent-in k p s L before .1 in
-      let another = ne-eqb (length (sentBy (p .from) L)) k (λ e. omega arith) in
+      let another = ne-eqb (length (sentBy (p .from) L)) k (λ e. omega (arith, sent-in k p s L before .1)) in
       snapshot-received k p s L before no-syn ∙ sym (if-false _ _ _ (rw another (and-false (g .from =ᵇ p .from)))))
       sent
     where

@@ -283,9 +283,7 @@ module _ (M : Machine) (Sound : M .State → Type 0) (keeps : KeepsTo M Sound) (
       order-carried : (allowance k : ℕ) (p : LineSegment) → InOrderOrOvertaken F allowance k p N → InOrderOrOvertaken M allowance k p L
       order-carried allowance k p order j g was mine no-reset later-sent =
           let o = order j g (arrived-carries M j g c was) mine no-reset later-sent in
-          let same-g = highestAck-same M (g .from) j c in
-          let same-p = highestAck-same M (p .from) j c in
-          record { sent-while = omega (arith, o .sent-while); acks-near = o .acks-near }
+          record { sent-while = omega (arith, o .sent-while, highestAck-same M (g .from) j c, highestAck-same M (p .from) j c); acks-near = o .acks-near }
 
       live-carried : Live F (told F t₀ N) b → Live M (told M s₀ L) q
       live-carried live = omega (arith, live, clock-given, clock-same, until-same)
