@@ -248,8 +248,8 @@ ofCalls =
 
 -- Both limits of document 02, item 7, are exact, in its own words too
 
--- a segment overtaken by one that acknowledges 465 octets further is legal, and passes 66,000 below the other end's end; one for which it is 466
--- would be in order with an allowance of 466, and is blocked
+-- a segment overtaken by one that acknowledges 465 octets further is legal, and passes with an acknowledgement 66,000 below the other end's end; one
+-- for which it is 466 would be allowed with an allowance of 466, and is blocked
 abbrev pub AllowanceExact : Type 0
 AllowanceExact =
     let L = reverse acksLow in
@@ -258,7 +258,7 @@ AllowanceExact =
     × (InOrderOrOvertaken M 466 2 (acks1 .line) L × (theirEnd ≡ acks1 .line .acked + 66001) × (said M one L (brings 0 acks1) .answer ≡ 15))
 
 -- a segment that starts at the highest acknowledgement that its sender had received when it sent the one that overtook it is legal, and passes; one
--- that starts one octet lower would be in order one octet higher, and is blocked
+-- that starts one octet lower would be allowed if it started one octet higher, and is blocked
 abbrev pub StartExact : Type 0
 StartExact =
     let L = reverse startsLow in

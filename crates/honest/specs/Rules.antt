@@ -85,8 +85,8 @@ module _ {Call : Type 0} where
 -- "nothing in a reset counts as received" (document 02, item 6), and among an end's sendings its acknowledgement doesn't count either: both
 -- of the following leave resets out
 
--- the highest of a number over segments, 0 over none: an end that may send a later segment has received one (`after-answer`), and of a SYN that
--- overtakes 0 is past no start
+-- the highest of a number over segments, 0 over none: an end that may send a later segment has received one (`after-answer`), and where a SYN
+-- overtakes, 0 is past no start
 unfoldable pub highest : (LineSegment → ℕ) → List LineSegment → ℕ
 highest f [] = 0
 highest f (p ∷ l) = if isReset (p .flags) then highest f l else max (f p) (highest f l)

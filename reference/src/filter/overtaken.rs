@@ -1,6 +1,6 @@
 //! Document 02, item 7: segments that reach the filter after others that were sent
-//! later. Both its limits are exact: at them the filter passes what one octet
-//! further it blocks.
+//! later. At each limit the filter passes a segment; one octet further it blocks
+//! one.
 
 use super::*;
 
@@ -8,8 +8,9 @@ use super::*;
 const O: u32 = 0;
 const A: u32 = 1;
 
-/// Where the places of the two ends are counted from; from the second each, they
-/// wrap between the numbers below.
+/// Where the places of the two ends are counted from. From the second pair the
+/// opener's numbers wrap at 696 and the answerer's at 33,296, in the tests that go
+/// that far.
 const ORIGINS: [(u32, u32); 2] = [(0, 0), (4_294_966_600, 4_294_934_000)];
 
 /// A connection on a fresh table.
@@ -93,7 +94,7 @@ fn the_allowance_is_exact() {
     }
 }
 
-/// The answer to a segment of the opener that starts at the place, after one
+/// The answer to a segment of the opener that starts at `start`, after one
 /// overtook it that was sent when the highest acknowledgement received was 102.
 fn overtaken_from(origins: (u32, u32), start: u32, again: bool) -> u32 {
     let mut run = Run::new(origins);

@@ -21,7 +21,7 @@ pub struct Sending {
     pub acknowledgement: u64,
     pub window: u16,
     /// "the highest acknowledgement that sender had received" when it was sent
-    /// (document 02, item 7).
+    /// (document 02, item 7); the SYN's end before the first.
     pub received: u64,
     /// Its place in the end's sending order, from 1; its way counts them.
     pub number: u64,
@@ -58,7 +58,7 @@ struct HonestEnd {
     sent: u64,
     /// Its FIN was sent: the place below `sent`.
     fin: bool,
-    /// The highest acknowledgement received.
+    /// The highest acknowledgement received; the SYN's end before the first.
     acknowledged: u64,
     /// The highest a + max(w, 1) received.
     limit: u64,
@@ -285,7 +285,7 @@ impl Link {
         end
     }
 
-    /// That segment, if the end waits for it, or any event.
+    /// If the end waits, mostly a segment that comes late; else any event.
     fn turn(&mut self, end: usize, longest: u64, random: &mut Random) -> Option<Reaching> {
         if self.ends[end].waits() && !random.once_in(4) {
             return self.ends[end].way.come_late(random);

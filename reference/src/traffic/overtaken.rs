@@ -40,7 +40,7 @@ pub struct OvertakenCounts {
 }
 
 impl OvertakenCounts {
-    /// Takes an arrival at a live connection, as it was before it.
+    /// Counts an arrival at a live connection; `held` is the connection before it.
     pub fn count(&mut self, held: &Connection, sender: usize, reaching: &Reaching) {
         let again = usize::from(reaching.again);
         self.by_reset[again] += u64::from(reaching.reset_overtook);
@@ -59,7 +59,7 @@ impl OvertakenCounts {
         self.data_by_fin[usize::from(again)] += u64::from(data_by_fin);
     }
 
-    /// Where the latest overtaker and the two records leave not an octet more.
+    /// Arrivals at a limit: one octet further is not allowed, or is blocked.
     fn limits(&mut self, from: End, to: End, reaching: &Reaching, latest: &Sending) {
         let (start, said) = (reaching.sending.start, reaching.sending.acknowledgement);
         let is_at_start = latest.received == start;

@@ -119,8 +119,8 @@ impl Way {
         Some(self.arrive(sent))
     }
 
-    /// Any that may come late, or the first that has not arrived, or that is as far
-    /// overtaken as may be.
+    /// One of those kept: the first that has not arrived, the first that was
+    /// overtaken by just the allowance, or any.
     fn choose(&self, random: &mut Random) -> Option<usize> {
         match random.below(4) {
             0 => self.late.iter().position(|sent| !sent.arrived),
@@ -147,8 +147,8 @@ impl Way {
     /// "if every segment without RST of its sender that was sent later but arrived
     /// earlier was sent while the highest acknowledgement that sender had received
     /// was no further than the overtaken segment's start, and acknowledges at most
-    /// 465 octets further than it". What an end has received and what it
-    /// acknowledges never fall in sending order, so the last one speaks for all.
+    /// 465 octets further than it". The highest acknowledgement received and those
+    /// sent never fall in sending order, so the last one speaks for all.
     fn may_arrive(&self, overtaken: &Sending) -> bool {
         self.overtaker_of(overtaken).is_none_or(|latest| {
             latest.received <= overtaken.start
@@ -187,7 +187,8 @@ impl Way {
         reaching
     }
 
-    /// A segment has arrived for the first time.
+    /// Counts a segment that arrives for the first time as an overtaker of those
+    /// kept that were sent before it.
     fn overtake(&mut self, number: u64) {
         for late in &mut self.late {
             late.overtakers += u32::from(late.sending.number < number);
@@ -207,8 +208,8 @@ impl Way {
         self.late.push(sent);
     }
 
-    /// An acknowledgement as far as the allowance lets one go that is to overtake
-    /// a segment on the way.
+    /// The furthest acknowledgement with which a new segment may still overtake
+    /// one that is on the way, chosen at random.
     pub fn furthest_acknowledgement(&self, random: &mut Random) -> Option<u64> {
         let count = self.late.len() + self.queue.len();
         if count == 0 {
