@@ -1,5 +1,5 @@
--- Demand 3 (document 01, "Honest ends"; of resets and overtaken segments document 02, items 6 and 7): "a single claim about the list of events and not one for each call".
--- Lists are newest first. Its sentences stand above what states them, in its order but for what needs another first.
+-- Demand 3 (document 01, "Honest ends"; of resets and overtaken segments document 02, items 6 and 7): "a single claim about the list of events
+-- and not one for each call". Lists are newest first. Its sentences stand above what states them, in its order but for what needs another first.
 use Prim.Native.Nat.{ℕ, _+_, _≤_, _<_, max}
 use mathlib.Core.Path.{_≡_}
 use mathlib.Core.Logic.{_⊎_}
