@@ -82,22 +82,30 @@ module _
     fits : widest + overtakingAllowance ≤ ackRange
     fits = omega arith
 
-    b : Bounds.InBounds h p
-    b = Bounds.in-bounds P h Arrived L inv overtakingAllowance k p s sent no-reset ordered fits a begun
+    other-known : 1 - p .from < 2
+    other-known = omega (arith, fact .end-known)
+
+    pass : judge h p ≡ Pass
+    pass = Bounds.judged-pass P h Arrived L inv overtakingAllowance k p s sent no-reset ordered fits a begun
 
     near : Near (numbersOf (p .from) h .end) (p .start)
     near =
         start-near (numbersOf (p .from) h) (numbersOf (1 - p .from) h) (p .start) (p .length)
-        (spans h a (p .from) (fact .end-known)) (spans h a (1 - p .from) (omega (arith, fact .end-known))) (b .II) (b .I)
+        (spans h a (p .from) (fact .end-known)) (spans h a (1 - p .from) other-known)
+        (Bounds.bound-II P h Arrived L inv overtakingAllowance k p s sent no-reset ordered fits a begun)
+        (Bounds.bound-I P h Arrived L inv overtakingAllowance k p s sent no-reset ordered fits a begun)
 
     near-ack : ack (p .flags) ≡ 1 → Near (numbersOf (1 - p .from) h .end) (p .acked)
-    near-ack acks = ack-near ackRange ackRange-small (numbersOf (1 - p .from) h) (p .acked) (b .III acks) (b .IV acks)
+    near-ack acks =
+        ack-near ackRange ackRange-small (numbersOf (1 - p .from) h) (p .acked)
+        (Bounds.bound-III P h Arrived L inv overtakingAllowance k p s sent no-reset ordered fits a begun acks)
+        (Bounds.bound-IV P h Arrived L inv overtakingAllowance k p s sent no-reset ordered fits a begun acks)
 
     later-passing : Passing
     later-passing = record {
-      verdict = judged-answered c h holds p (fact .end-known) a near near-ack ∙ b .pass;
-      holds-after = carried-holds c h holds p (fact .end-known) (fact .formed) (fact .no-reset) (b .pass) a;
-      heard-after = both (carried-answered c h holds p (fact .end-known) (fact .formed) (fact .no-reset) (b .pass) a)
+      verdict = judged-answered c h holds p (fact .end-known) a near near-ack ∙ pass;
+      holds-after = carried-holds c h holds p (fact .end-known) (fact .formed) (fact .no-reset) pass a;
+      heard-after = both (carried-answered c h holds p (fact .end-known) (fact .formed) (fact .no-reset) pass a)
           (λ i known. omega (arith, begun i known, rises-more p h .end i));
     }
 

@@ -21,13 +21,6 @@ use Rattle.honest.specs.Rules.{Event, Pair, highest, ackOf, endOf, highe
 use Rattle.honest.proofs.Lists.{In, NoReset, highest-lub, endBy-mine, numbers-up, end-lub}
 use Rattle.honest.proofs.Sends.{SentWith, snapshot-received, InOrderAmong, ackFrom, Later, First, Fact, Protocol, FirstFacts, first-facts, answered-in, passed-sent}
 
-pub record InBounds (h : List LineSegment) (p : LineSegment) : Type 0 where
-  pub I : endOf p ≤ numbersOf (p .from) h .edge
-  pub II : numbersOf (p .from) h .end ≤ p .start + numbersOf (1 - p .from) h .win
-  pub III : ack (p .flags) ≡ 1 → p .acked ≤ numbersOf (1 - p .from) h .end
-  pub IV : ack (p .flags) ≡ 1 → numbersOf (1 - p .from) h .end ≤ p .acked + ackRange
-  pub pass : judge h p ≡ Pass
-
 module _
     {Call : Type 0} (P : Pair) (h : List LineSegment) (Arrived : ℕ → LineSegment → Type 0) (L : List (Event Call))
     (inv : Protocol P h Arrived L) where
@@ -38,7 +31,7 @@ module _
     fact = inv .facts k p s sent no-reset
 
     -- The order of arrivals enters here alone: what has passed of the same end was sent no later, or may overtake p
-    pub admitted :
+    admitted :
         (g : LineSegment) → In g h → NoReset g → g .from ≡ p .from →
         (r : ℕ) × Fact P h g r L × (r ≤ p .start) × (ack (g .flags) ≡ 1 → ack (p .flags) ≡ 1 → g .acked ≤ p .acked + allowance)
     admitted g there none same =
@@ -73,14 +66,8 @@ module _
     module _
         (fits : widest + allowance ≤ ackRange) (both-heard : Answered h)
         (begun : (i : ℕ) → i < 2 → P .start i + 1 ≤ numbersOf i h .end) where
-      i : ℕ
-      i = p .from
-
       F : Spans (numbersOf (p .from) h)
       F = spans h both-heard (p .from) (fact .end-known)
-
-      T : Spans (numbersOf (1 - p .from) h)
-      T = spans h both-heard (1 - p .from) (omega (arith, fact .end-known))
 
       begun-mine : P .start (p .from) + 1 ≤ numbersOf (p .from) h .end
       begun-mine = begun (p .from) (fact .end-known)
@@ -151,9 +138,6 @@ module _
               rw (le-leb _ _ (bound-III acks), le-leb _ _ (bound-IV acks)) in
               if-false _ _ _ (rw (e, in-range))
           by-ack false e = if-false _ _ _ (rw e)
-
-      pub in-bounds : InBounds h p
-      in-bounds = record { I = bound-I; II = bound-II; III = bound-III; IV = bound-IV; pass = judged-pass }
 
   -- In stage 1 neither end is answered, so each sends its first segment only
 

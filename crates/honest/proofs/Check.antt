@@ -260,8 +260,8 @@ module _ (t₀ : View connections) (P : Pair) where
       (λ j g. ifEqual (g .from) (p .from) (ifEqual (rst (g .flags)) 0
       (ifBelow k j (mayOvertake allowance (highestAckAtSending (g .from) j L) g p)))) L)
 
-  abbrev comes : (k : ℕ) (p : LineSegment) (q : ViewCall) (L : Seen) → Test (Arrival M t₀ P k p q L)
-  comes k p q L =
+  abbrev pub comesWith : (allowance k : ℕ) (p : LineSegment) (q : ViewCall) (L : Seen) → Test (Arrival M t₀ P allowance k p q L)
+  comesWith allowance k p q L =
       so (λ h. record {
         after-opening = h .0;
         arrives = arrives k p q L (h .1 .0);
@@ -271,7 +271,7 @@ module _ (t₀ : View connections) (P : Pair) where
       })
       (both (isTrue (told M t₀ L .openingSeen))
       (both (brings k p q L)
-      (both (ifEqual (rst (p .flags)) 0 (inOrderOrOvertaken overtakingAllowance k p L))
+      (both (ifEqual (rst (p .flags)) 0 (inOrderOrOvertaken allowance k p L))
       (both (isLive q L) (ifEqual (rst (p .flags)) 1 (isTrue (passes M (told M t₀ L) q)))))))
 
   -- not passed on the opening's entry, or a reset
@@ -282,7 +282,7 @@ module _ (t₀ : View connections) (P : Pair) where
 
   abbrev fairCall : (l : Label) (q : ViewCall) (L : Seen) → Test (FairCall M t₀ P l q L)
   fairCall (opening k p) q L = opens k p q L
-  fairCall (arrival k p) q L = comes k p q L
+  fairCall (arrival k p) q L = comesWith overtakingAllowance k p q L
   fairCall other q L = noArrival q L
 
   abbrev isLabel : (l : Label) (k : ℕ) (p : LineSegment) → Test (IsArrivalOf l k p)

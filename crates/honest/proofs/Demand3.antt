@@ -25,7 +25,7 @@ use Rattle.connection.proofs.Stages.{lifeOf-outside}
 use Rattle.history.proofs.Pass.{reset-freed, reset-answered, reset-holds, opened-unanswered, opened-holds, opener-begins}
 use Rattle.honest.specs.Sound.{SoundView}
 use Rattle.honest.specs.Machine.{Reading, refused, asks, apart, Machine, clockIn, asksHere, bringsReset, KeepsTo}
-use Rattle.honest.specs.Rules.{Label, opening, arrival, other, Event, send, call, delivery, Pair, sideOf, keyOf, Sent, Arrived, receivedBy, highestAckAtSending, Honest}
+use Rattle.honest.specs.Rules.{Label, opening, arrival, other, Event, send, call, delivery, Pair, sideOf, keyOf, Sent, Arrived, receivedBy, highestAckAtSending, Honest, overtakingAllowance}
 use Rattle.honest.specs.Honest.{Told, passes, nextClock, afterSegment, passedOnOurs, someReset, afterElsewhere, afterCall, told, said, Live, WasPassed, bringing, Opening, Arrival, FairCall, Legal, NeverBlocked, Demand3}
 use Rattle.honest.proofs.Lists.{In, NoReset}
 use Rattle.honest.proofs.Sends.{SentWith, sent-with, sending, First, Later, Fact, Protocol, answered-in, protocol-sent, protocol-delivered, protocol-called, protocol-passed, protocol-reset, rises-more}
@@ -503,7 +503,7 @@ module _ (M : Machine) (Sound : M .State → Type 0) (keeps : KeepsTo M Sound) (
   Good q k p L = (said M s₀ L q .answer ≡ 0) × (said M s₀ L q .place ≡ told M s₀ L .place) × Inv (call q (arrival k p) ∷ L)
 
   module _
-      (q : M .Call) (k : ℕ) (p : LineSegment) (L : List (Event (M .Call))) (inv : Inv L) (r : Arrival M s₀ P k p q L)
+      (q : M .Call) (k : ℕ) (p : LineSegment) (L : List (Event (M .Call))) (inv : Inv L) (r : Arrival M s₀ P overtakingAllowance k p q L)
       (c : Connection) (al : Alive (told M s₀ L) c) where
     abbrev a : Ask
     a = bringing P p (r .arrives .clock)
@@ -556,7 +556,7 @@ module _ (M : Machine) (Sound : M .State → Type 0) (keeps : KeepsTo M Sound) (
           },
         )
 
-  after-arrival : (q : M .Call) (k : ℕ) (p : LineSegment) (L : List (Event (M .Call))) → Inv L → Arrival M s₀ P k p q L → Good q k p L
+  after-arrival : (q : M .Call) (k : ℕ) (p : LineSegment) (L : List (Event (M .Call))) → Inv L → Arrival M s₀ P overtakingAllowance k p q L → Good q k p L
   after-arrival q k p L inv r = by-phase (inv .table .phase)
     where
       by-phase : Phase (told M s₀ L) → Good q k p L

@@ -20,7 +20,7 @@ use Rattle.honest.specs.Rules.{opening, arrival, other, send, call, deli
 use Rattle.honest.specs.Honest.{passes, passedOnOurs, afterCall, told, said, Fair, Legal, NeverBlocked}
 use Rattle.honest.specs.Witness.{pair, openerLine, brings, Seen}
 use Rattle.honest.specs.Needed.{Need, one, M, FairAfter, BlockedArrival, Shown, AllShown, comes, startsAt1, startsAt2, startsLow, acks1, acks2, acksLow, ofSendings, ofCalls, AllowanceExact, StartExact, EachNeeded}
-use Rattle.honest.proofs.Check.{Test, both, three, yes, no, so, equal, atMost, inOrderOrOvertaken, fair, checked, checkedAsWritten}
+use Rattle.honest.proofs.Check.{Test, both, three, yes, no, so, equal, atMost, inOrderOrOvertaken, comesWith, fair, checked, checkedAsWritten}
 use Rattle.honest.proofs.Instance.{demand3-view, fresh-sound}
 
 -- By computation
@@ -96,7 +96,7 @@ allowanceExact =
     let theirEnd = numbersOf answerer (told M one L .history) .end in
     both (three (checkedAsWritten one pair (comes 3 0 acks2 ∷ L)) (equal theirEnd (acks2 .line .acked + 66000))
     (equal (said M one L (brings 0 acks2) .answer) 0))
-    (three (inOrderOrOvertaken one pair 466 2 (acks1 .line) L) (equal theirEnd (acks1 .line .acked + 66001))
+    (three (comesWith one pair 466 2 (acks1 .line) (brings 0 acks1) L) (equal theirEnd (acks1 .line .acked + 66001))
     (equal (said M one L (brings 0 acks1) .answer) 15))
 
 abbrev startExact : Test StartExact

@@ -146,12 +146,12 @@ module _ (M : Machine) where
     WasPassed k p (delivery j g ∷ L) = WasPassed k p L
 
   module _ (s₀ : M .State) (P : Pair) where
-    -- an arrival after it: in order or overtaken, and "At each arrival after the opening the connection is live, told from the calls"
-    pub record Arrival (k : ℕ) (p : LineSegment) (q : M .Call) (L : Events) : Type 0 where
+    -- an arrival after it: in order or overtaken, by an allowance, and "At each arrival after the opening the connection is live, told from the calls"
+    pub record Arrival (allowance k : ℕ) (p : LineSegment) (q : M .Call) (L : Events) : Type 0 where
       pub after-opening : told s₀ L .openingSeen ≡ true
       pub arrives : Arrives P k p q L
       -- resets may come in any order
-      pub order : rst (p .flags) ≡ 0 → InOrderOrOvertaken overtakingAllowance k p L
+      pub order : rst (p .flags) ≡ 0 → InOrderOrOvertaken allowance k p L
       pub live : Live (told s₀ L) q
       -- "Demand 3 now allows resets .. that themselves pass" (document 02, item 6); a call with one that doesn't pass counts as any other call.
       -- From stage 2 on it gives stage 6; in stage 1 it frees, and no arrival is live after it (`until`)
@@ -159,7 +159,7 @@ module _ (M : Machine) where
 
     abbrev pub FairCall : Label → M .Call → Events → Type 0
     FairCall (opening k p) q L = Opening s₀ P k p q L
-    FairCall (arrival k p) q L = Arrival k p q L
+    FairCall (arrival k p) q L = Arrival overtakingAllowance k p q L
     -- "After the opening, a call that is no arrival may give anything, but isn't passed on the opening's entry", unless it brings a reset,
     -- whoever sent that: from stage 2 on it gives stage 6; in stage 1 it frees, and no arrival is live after it (`until`)
     FairCall other q L = passedOnOurs (told s₀ L) q ≡ true → bringsReset (M .reads q) ≡ true

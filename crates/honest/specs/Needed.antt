@@ -12,7 +12,7 @@ use Rattle.rows.specs.Examples.{outward}
 use Rattle.honest.specs.Machine.{Machine}
 use Rattle.history.specs.History.{numbersOf}
 use Rattle.honest.specs.Rules.{opening, arrival, other, send, call, delivery, Pair, highestAckAtSending, overtakingAllowance}
-use Rattle.honest.specs.Honest.{told, said, InOrderOrOvertaken, Fair, Legal, LegalAsWritten}
+use Rattle.honest.specs.Honest.{told, said, InOrderOrOvertaken, Arrival, Fair, Legal, LegalAsWritten}
 use Rattle.honest.specs.Instance.{viewMachine}
 use Rattle.honest.specs.Demand2.{fresh}
 use Rattle.honest.specs.Witness.{pair, Piece, openerLine, opener's, answerer's, brings, Seen, sends, opens, arrives, delivers, uncounted}
@@ -249,13 +249,13 @@ ofCalls =
 -- Both limits of document 02, item 7, are exact, in its own words too
 
 -- a segment overtaken by one that acknowledges 465 octets further is legal, and passes with an acknowledgement 66,000 below the other end's end; one
--- for which it is 466 would be allowed with an allowance of 466, and is blocked
+-- for which it is 466 has all that is asked of an arrival, with an allowance of 466, and is blocked
 abbrev pub AllowanceExact : Type 0
 AllowanceExact =
     let L = reverse acksLow in
     let theirEnd = numbersOf answerer (told M one L .history) .end in
     (LegalAsWritten M one pair (comes 3 0 acks2 ∷ L) × (theirEnd ≡ acks2 .line .acked + 66000) × (said M one L (brings 0 acks2) .answer ≡ 0))
-    × (InOrderOrOvertaken M 466 2 (acks1 .line) L × (theirEnd ≡ acks1 .line .acked + 66001) × (said M one L (brings 0 acks1) .answer ≡ 15))
+    × (Arrival M one pair 466 2 (acks1 .line) (brings 0 acks1) L × (theirEnd ≡ acks1 .line .acked + 66001) × (said M one L (brings 0 acks1) .answer ≡ 15))
 
 -- a segment that starts at the highest acknowledgement that its sender had received when it sent the one that overtook it is legal, and passes; one
 -- that starts one octet lower would be allowed if it started one octet higher, and is blocked
