@@ -1,4 +1,6 @@
 // Addresses of both IP versions as one type, in lent bytes at an offset. An address is the big-endian number of its 4 or 16 octets.
+#![tactic(auto)]
+
 ghost use Rattle.std.specs.Prelude.{◌≡◌, ◌+◌, ◌≤◌, length};
 ghost use Rattle.octets.specs.Overwrite.{overwrite};
 ghost use Rattle.address.specs.Address.{address_size, address_at, address_octets, endpoint_at, flow_at};
@@ -6,28 +8,28 @@ ghost use Rattle.address.specs.Flows.{reversed, same_address, same_flow};
 
 use octets::{read16, read32, read64, write32, write64};
 
-#[derive(Drop)]
+#[derive(Clone, Copy)]
 pub enum Version {
     V4,
     V6,
 }
 
 // The number high·2^64 + low: an IPv4 address has high 0.
-#[derive(Drop)]
+#[derive(Clone, Copy)]
 pub struct Address {
     pub high: u64,
     pub low: u64,
 }
 
 // One end's address and port.
-#[derive(Drop)]
+#[derive(Clone, Copy)]
 pub struct Endpoint {
     pub address: Address,
     pub port: u16,
 }
 
 // Addresses and ports, the sender's first; in an entry, the opener's first.
-#[derive(Drop)]
+#[derive(Clone, Copy)]
 pub struct Flow {
     pub from: Endpoint,
     pub to: Endpoint,

@@ -6,6 +6,8 @@
 //   g SENDER FLAGS SEQ ACK WINDOW OCTETS CLOCK    decide on this segment, and hold what a pass leaves
 // with decimal numbers. o prints the ten fields of the connection as c has them; g prints 0 and the ten fields after a
 // pass, or else the verdict's number alone.
+#![tactic(auto)]
+
 ghost use Rattle.std.specs.Prelude.{◌≤◌, ◌<◌};
 
 use connection::{Connection, End, Verdict};
@@ -15,7 +17,7 @@ use segment::Segment;
 use serial::{OctetCount, SeqNum};
 
 // The held connection, and how much of the output is in use.
-#[derive(Drop)]
+#[derive(Clone, Copy)]
 struct Bench {
     held: Connection,
     used: usize,

@@ -1,5 +1,7 @@
 // The ones' complement sum of octets (RFC 1071) by 32-bit groups, added into 64 bits, the carries at the end. Swapping the octets
 // of every word swaps those of the sum (RFC 1071, section 2), so groups are read as one load gives them, and the sum is swapped at the end.
+#![tactic(auto)]
+
 ghost use Rattle.std.specs.Prelude.{◌≡◌, ◌+◌, ◌*◌, ◌^◌, ◌≤◌, ◌<◌, length, get_or};
 ghost use Rattle.octets.specs.LittleEndian.{little_endian};
 ghost use Rattle.checksum.specs.Sum.{ones_sum};

@@ -1,4 +1,6 @@
 // One connection by value: the decision on a segment of it, and what a pass leaves (document 01, "Ranges" and "Stages"; document 02, item 6).
+#![tactic(auto)]
+
 ghost use Rattle.std.specs.Prelude.{◌≡◌, ◌^◌, ◌<◌, ◌≤◌};
 ghost use Rattle.connection.specs.Ends.{effective_window, sent, granted, begun, widened, ends_after};
 ghost use Rattle.connection.specs.Ranges.{sequence_met, ack_range, ack_met};
@@ -9,7 +11,7 @@ use segment::Segment;
 use serial::{OctetCount, SeqNum};
 
 // What one end has shown, resets left out: document 01's record.
-#[derive(Drop)]
+#[derive(Clone, Copy)]
 pub struct End {
     // The highest end of a segment that it sent.
     pub end: SeqNum,
@@ -19,7 +21,7 @@ pub struct End {
     pub win: OctetCount,
 }
 
-#[derive(Drop)]
+#[derive(Clone, Copy)]
 pub struct Connection {
     // 1 unanswered, 2 answered, 3 open, 4 one FIN, 5 both, 6 reset; 0 is a free connection.
     pub stage: u8,
@@ -32,7 +34,7 @@ pub struct Connection {
     pub ends: [End; 2],
 }
 
-#[derive(Drop)]
+#[derive(Clone, Copy)]
 pub enum Verdict {
     Pass,
     // 13: none of the three segments that stage 1 allows.
@@ -58,7 +60,7 @@ impl Verdict {
 }
 
 // What a segment of a matched connection comes to.
-#[derive(Drop)]
+#[derive(Clone, Copy)]
 pub struct Decided {
     pub verdict: Verdict,
     // What a pass leaves, or else the connection as it was.

@@ -1,5 +1,7 @@
 // One entry of the table by value: loaded from its place in lent bytes, and stored there (document 01, "The table"), in the layout of
 // either IP version.
+#![tactic(auto)]
+
 ghost use Rattle.std.specs.Prelude.{◌≡◌, ◌+◌, ◌^◌, ◌≤◌, ◌<◌, length, replicate};
 ghost use Rattle.octets.specs.Overwrite.{overwrite};
 ghost use Rattle.address.specs.Address.{address_size};
@@ -12,7 +14,7 @@ use octets::{read32, read64, write16, write32, write64};
 use serial::{OctetCount, SeqNum};
 
 // Addresses and ports stand the opener's way round.
-#[derive(Drop)]
+#[derive(Clone, Copy)]
 pub struct Entry {
     pub key: Flow,
     pub connection: Connection,

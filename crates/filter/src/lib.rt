@@ -1,4 +1,6 @@
 // One call of the filter: the rows of document 01, with 16 of document 02, item 5, on a table of either IP version; and the filter of IPv4.
+#![tactic(auto)]
+
 ghost use Rattle.std.specs.Prelude.{◌≡◌, ◌^◌, ◌≤◌, ◌<◌, max, length};
 ghost use Rattle.entry.specs.Layout.{header_size, place_at};
 ghost use Rattle.entry.specs.Viewed.{viewed, stored};
@@ -20,7 +22,7 @@ use table::{find, set_clock, sound, vacant};
 
 // What a call comes to: the answer and the place, and for a pass the clock used and the entry that it leaves. One struct for
 // both cases, told apart by the answer, since an enum can't hold an entry's two records today.
-#[derive(Drop)]
+#[derive(Clone, Copy)]
 struct Decision {
     answer: u32,
     place: usize,
@@ -29,7 +31,7 @@ struct Decision {
 }
 
 // Answer and place.
-#[derive(Drop)]
+#[derive(Clone, Copy)]
 pub struct Reply {
     pub answer: u32,
     pub place: usize,

@@ -1,1 +1,2 @@
 // Definitions and theorems only: the unwrapped line that a connection's six numbers stand for.
+#![tactic(auto)]

@@ -1,4 +1,6 @@
 // Big-endian numbers of 2, 4 and 8 octets in lent bytes, at an offset; by words that are read and stored lowest octet first.
+#![tactic(auto)]
+
 ghost use Rattle.std.specs.Prelude.{◌≡◌, ◌+◌, ◌*◌, ◌/◌, ◌%◌, ◌≤◌, ◌<◌, min, length};
 ghost use Rattle.octets.specs.BigEndian.{big_endian, octets_of};
 ghost use Rattle.octets.specs.LittleEndian.{little_endian, FourOctets, little_octets};

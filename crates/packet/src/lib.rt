@@ -1,5 +1,7 @@
 // Reads a packet with one TCP segment: answers 5 to 10 and 16 of the documents with the byte offset at which it broke, or the flow and the
 // segment. The IP version decides rows 5 to 8 and where the addresses stand; rows 9, 16 and 10 are TCP's. There is a reader of IPv4.
+#![tactic(auto)]
+
 ghost use Rattle.std.specs.Prelude.{◌≡◌, ◌+◌, ◌-◌, ◌^◌, ◌≤◌, ◌<◌, length};
 ghost use Rattle.address.specs.Address.{address_size, flow_at};
 ghost use Rattle.segment.specs.Flags.{control};
@@ -15,7 +17,7 @@ use segment::Segment;
 use serial::{OctetCount, SeqNum};
 
 // Why a packet is refused.
-#[derive(Drop)]
+#[derive(Clone, Copy)]
 pub enum Cause {
     // 5: under 20 bytes.
     Short,
@@ -50,21 +52,21 @@ pub enum Cause {
 }
 
 // What an IP header says: why and at which byte the packet is refused, or where TCP's header begins and where the packet ends.
-#[derive(Drop)]
+#[derive(Clone, Copy)]
 enum IpRead {
     BadHeader(Cause, usize),
     CarriesTcp(usize, usize),
 }
 
 // Why and at which byte a packet is refused, or what it brings.
-#[derive(Drop)]
+#[derive(Clone, Copy)]
 pub enum PacketRead {
     Refused(Cause, usize),
     Tcp(Flow, Segment),
 }
 
 // What row 10 says of the flags.
-#[derive(Drop)]
+#[derive(Clone, Copy)]
 enum FlagCheck {
     Fine,
     BadFlags(Cause),

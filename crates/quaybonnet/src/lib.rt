@@ -1,4 +1,6 @@
 // The library for programs in C and Rust: include/quaybonnet.h says how each function is called.
+#![tactic(auto)]
+
 ghost use Rattle.std.specs.Prelude.{◌≡◌, ◌+◌, ◌*◌, ◌≤◌};
 ghost use Rattle.filter.specs.Call.{ipv4_outcome, reply_of, table_after};
 ghost use Rattle.trace.specs.Read.{packet_after_reading, reading};

@@ -1,4 +1,6 @@
 // Runs a trace whose input comes in pieces: document 01, "Trace lines". A program adds the reading and the writing.
+#![tactic(auto)]
+
 ghost use Rattle.std.specs.Prelude.{◌≡◌, ℕ, ◌+◌, ◌*◌, ◌<◌, ◌≤◌, min, length, drop, slice_index};
 ghost use Rattle.octets.specs.Overwrite.{overwrite};
 ghost use Rattle.report.specs.Text.{result_text};
@@ -15,7 +17,7 @@ use trace::LineRead;
 type Packet = [u8; 2048];
 
 // How far a run is.
-#[derive(Drop)]
+#[derive(Clone, Copy)]
 pub struct Progress {
     // Bytes of the line that has not ended yet.
     pub kept: usize,
@@ -27,7 +29,7 @@ pub struct Progress {
 }
 
 // What a line comes to.
-#[derive(Drop)]
+#[derive(Clone, Copy)]
 struct Answered {
     answer: u32,
     shown: Shown,

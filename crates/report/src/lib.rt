@@ -1,10 +1,12 @@
 // What the trace program prints: document 01, "Trace lines".
+#![tactic(auto)]
+
 ghost use Rattle.std.specs.Prelude.{◌≡◌, ◌+◌, ◌≤◌, length};
 ghost use Rattle.octets.specs.Overwrite.{overwrite};
 ghost use Rattle.report.specs.Text.{digit_count, decimal_digits, decimal_text, shown_text, shown_place, result_text, total_text};
 
 // What a result's line shows after the answer.
-#[derive(Drop)]
+#[derive(Clone, Copy)]
 pub enum Shown {
     // A place, or the offset in a refused packet or a malformed line.
     Number(usize),

@@ -1,4 +1,6 @@
 // Reads a script by lines and collects the output, for the programs that run one.
+#![tactic(auto)]
+
 ghost use Rattle.std.specs.Prelude.{◌≡◌, ◌+◌, ◌*◌, ◌%◌, ◌^◌, ◌<◌, ◌≤◌, length, drop, slice_index};
 ghost use Rattle.report.specs.Text.{decimal_text};
 ghost use Rattle.script.specs.Output.{with_byte, with_bytes};
@@ -18,20 +20,20 @@ pub type Line = [u8; 4096];
 pub type Output = [u8; 65536];
 
 // Standard input: the chunk holds so many bytes, and those before at are taken.
-#[derive(Drop)]
+#[derive(Clone, Copy)]
 pub struct Input {
     at: usize,
     have: usize,
 }
 
-#[derive(Drop)]
+#[derive(Clone, Copy)]
 enum Arrived {
     Byte(u8, Input),
     End,
 }
 
 // What reading a line of the script gives; the last one is where the input ends.
-#[derive(Drop)]
+#[derive(Clone, Copy)]
 pub struct LineEnd {
     pub length: usize,
     pub is_last: bool,

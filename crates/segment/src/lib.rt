@@ -1,11 +1,13 @@
 // One TCP segment as the filter sees it, whatever IP version carried it.
+#![tactic(auto)]
+
 ghost use Rattle.std.specs.Prelude.{◌≡◌};
 ghost use Rattle.choice.specs.Choice.{◌=ᵇ◌};
 ghost use Rattle.segment.specs.Flags.{fin, syn, rst, ack};
 
 use serial::{OctetCount, SeqNum};
 
-#[derive(Drop)]
+#[derive(Clone, Copy)]
 pub struct Segment {
     // Document 01: s.
     pub seq: SeqNum,

@@ -1,5 +1,7 @@
 // Sequence numbers and octet counts, kept apart: place minus place is a count, place plus count is a place, and nothing
 // adds two places.
+#![tactic(auto)]
+
 ghost use Rattle.std.specs.Prelude.{◌≡◌, ◌+◌, ◌^◌};
 ghost use Rattle.serial.specs.Ring.{nearest};
 ghost use Rattle.serial.specs.Serial.{same_seq, seq_plus, seq_back, seq_minus, further, larger, same_count, one_to, at_most, within};
@@ -7,11 +9,11 @@ ghost use Rattle.serial.specs.Serial.{same_seq, seq_plus, seq_back, seq_minus, f
 use std::num::{wrapping_add_u32, wrapping_sub_u32};
 
 // A sequence or acknowledgement number: document 01's "place" on the ring of 2^32.
-#[derive(Drop)]
+#[derive(Clone, Copy)]
 pub struct SeqNum(pub u32);
 
 // A length or a window: document 01's "count of octets".
-#[derive(Drop)]
+#[derive(Clone, Copy)]
 pub struct OctetCount(pub u32);
 
 impl SeqNum {

@@ -1,5 +1,7 @@
 // The ones' complement sum in two ways, for programs that compare and time them: by 32-bit groups, as the packet reader takes it, and by a
 // plain loop over 16-bit words.
+#![tactic(auto)]
+
 ghost use Rattle.std.specs.Prelude.{◌≡◌, ◌^◌, ◌≤◌, ◌<◌, length};
 ghost use Rattle.sums.specs.Sums.{word_sum, sum_or_none};
 

@@ -1,5 +1,7 @@
 // The table of connections in lent bytes: its clock, whether it is sound, the search, and the place of an opening (document 01,
 // "The table").
+#![tactic(auto)]
+
 ghost use Rattle.std.specs.Prelude.{◌≡◌, ◌+◌, ◌-◌, ◌*◌, ◌^◌, ◌≤◌, ◌<◌, length};
 ghost use Rattle.octets.specs.BigEndian.{octets_of};
 ghost use Rattle.octets.specs.Overwrite.{overwrite};

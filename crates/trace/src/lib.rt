@@ -1,4 +1,6 @@
 // Trace lines: document 01, "Trace lines". One line holds one packet with its side and clock.
+#![tactic(auto)]
+
 ghost use Rattle.std.specs.Prelude.{◌≡◌, true, ◌+◌, ◌*◌, ◌^◌, ◌≤◌, ◌<◌, max, length};
 ghost use Rattle.octets.specs.Overwrite.{overwrite};
 ghost use Rattle.trace.specs.Hex.{is_hex, hex_value, hex_digit, hex_number, hex_digits, hex_pairs};
@@ -9,7 +11,7 @@ ghost use Rattle.trace.specs.Write.{write_line, line_after_writing, write_answer
 use octets::least;
 
 // What reading a line finds.
-#[derive(Drop)]
+#[derive(Clone, Copy)]
 pub enum LineRead {
     // 21: over 4,111 characters.
     TooLong,
@@ -22,7 +24,7 @@ pub enum LineRead {
 }
 
 // What writing a line gives.
-#[derive(Drop)]
+#[derive(Clone, Copy)]
 pub enum LineWrite {
     // 1: a side that is not 0 or 1.
     UnknownSide,
@@ -37,7 +39,7 @@ pub enum LineWrite {
 }
 
 // The reader's answer in document 01's numbers.
-#[derive(Drop)]
+#[derive(Clone, Copy)]
 pub struct ReadAnswer {
     pub number: u32,
     pub side: u8,
@@ -47,7 +49,7 @@ pub struct ReadAnswer {
 }
 
 // The writer's answer in document 01's numbers.
-#[derive(Drop)]
+#[derive(Clone, Copy)]
 pub struct WriteAnswer {
     pub number: u32,
     pub length: usize,

@@ -1,4 +1,6 @@
 // Runs a trace: document 01, "Trace lines". Here it is only read and written; what is printed is in `replay`.
+#![tactic(auto)]
+
 ghost use Rattle.std.specs.Prelude.{◌≤◌, ◌≡◌};
 
 use libc::{STDERR_FILENO, STDIN_FILENO, STDOUT_FILENO};

@@ -14,6 +14,8 @@
 //   ANSWER LENGTH TEXT
 //   SUM                             four hex digits
 // where HEX and TEXT are all NNNNN bytes, each '.' before, or '-' where there are none.
+#![tactic(auto)]
+
 ghost use Rattle.std.specs.Prelude.{◌≤◌, ◌<◌};
 
 use address::Flow;
@@ -26,7 +28,7 @@ use segment::Segment;
 type Buffer = [u8; 66000];
 
 // How much of the buffer and of the output is in use.
-#[derive(Drop)]
+#[derive(Clone, Copy)]
 struct Used {
     buffer: usize,
     output: usize,
