@@ -4,18 +4,15 @@ use mathlib.Core.Path.{◌≡◌, ap, ◌∙◌}
 use native.Mathlib.Omega.{arith}
 use Rattle.checksum.specs.Reduced.{fold, reduced}
 use Rattle.checksum.proofs.Reduced.{reduced≤65535, reduced-fold, fold-below, fold≡reduced}
-use borrow.Author.Rules.{rules}
 use Rattle.checksum.proofs.carries_added.Goals as goal
 
-thrice-reduced : (c : goal.After-folded3) → c.folded.result ≡ reduced c.args.sum
+thrice-reduced : (c : goal.After-folded) → c.folded.result ≡ reduced c.args.sum
 thrice-reduced c =
     let sum = c.args.sum in
-    let first : c.folded-once.result ≡ fold sum = c.folded-once.ensures ∙ ap fold (omega arith) in
     let once : fold sum < 1073807360 = fold-below sum 1073741824 (omega arith) in
-    let second : c.folded-twice.result ≡ fold (fold sum) = c.folded-twice.ensures ∙ ap fold (omega (arith, first, once)) in
+    let second : c.folded-twice.result ≡ fold (fold sum) = c.folded-twice.ensures ∙ ap fold c.folded-once.ensures in
     let twice : fold (fold sum) < 81921 = fold-below (fold sum) 16385 once in
-    let third : c.folded.result ≡ fold (fold (fold sum)) = c.folded.ensures ∙ ap fold (omega (arith, second, twice)) in
-    third ∙ fold≡reduced (fold (fold sum)) (omega (arith, twice)) ∙ reduced-fold (fold sum) ∙ reduced-fold sum
+    c.folded.ensures ∙ ap fold second ∙ fold≡reduced (fold (fold sum)) (omega arith) ∙ reduced-fold (fold sum) ∙ reduced-fold sum
 
 pub overflow_cast-result : goal.overflow_cast-result
 overflow_cast-result c = omega (arith, thrice-reduced c, reduced≤65535 c.args.sum)

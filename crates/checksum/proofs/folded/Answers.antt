@@ -1,6 +1,5 @@
 use native.Mathlib.Omega.{arith}
 use Rattle.checksum.specs.Reduced.{fold}
-use borrow.Author.Rules.{rules}
 use Rattle.checksum.proofs.folded.Goals as goal
 
 pub returns : goal.returns
