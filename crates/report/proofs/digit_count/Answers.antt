@@ -1,8 +1,8 @@
 -- The digits counted and those of what is left are the digits of the number.
-use Prim.Native.Nat.{◌+◌, ◌-◌, ◌^◌, ◌≤◌, ◌<◌}
+use Prim.Native.Nat.{◌+◌, ◌-◌}
 use mathlib.Core.Path.{◌≡◌}
 use native.Mathlib.Omega.{arith}
-use Rattle.report.specs.Text.{count_up_to, digit_count}
+use Rattle.report.specs.Text.{digit_count}
 use Rattle.report.proofs.Text.{count_up_to-one, count_up_to-more}
 use Rattle.report.proofs.digit_count.Goals as goal
 

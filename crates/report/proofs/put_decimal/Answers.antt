@@ -5,7 +5,6 @@ use native.Mathlib.Omega.{arith}
 use Rattle.octets.specs.Overwrite.{overwrite}
 use Rattle.report.specs.Text.{decimal_digits, decimal_text}
 use Rattle.report.proofs.Text.{length-decimal_text}
-use borrow.Author.Rules.{rules}
 use Rattle.report.proofs.put_decimal.Goals as goal
 
 pub write_digits-requires : goal.write_digits-requires

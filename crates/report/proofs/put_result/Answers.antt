@@ -3,7 +3,6 @@ use mathlib.Core.List.{[], ◌∷◌}
 use native.Mathlib.Omega.{arith}
 use Rattle.report.specs.Text.{decimal_text, shown_text, result_text}
 use Rattle.report.proofs.Text.{length-result_text, written_then, written_as, append-4}
-use borrow.Author.Rules.{rules}
 use Rattle.report.proofs.put_result.Goals as goal
 
 pub put_decimal-space-requires : goal.put_decimal-space-requires

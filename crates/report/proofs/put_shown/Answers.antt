@@ -3,18 +3,16 @@ use mathlib.Core.Path.{ap}
 use native.Mathlib.Omega.{arith}
 use lib.ListN.{length}
 use Rattle.report.proofs.Text.{shown_text-number, shown_text-dash}
-use borrow.Author.Rules.{rules}
 use Rattle.report.proofs.put_shown.Goals as goal
 
 pub put_decimal-requires : goal.put_decimal-requires
-put_decimal-requires c =
-    let shown = c.shown.given in omega (arith, ap length (shown_text-number _ _ shown.1))
+put_decimal-requires c = omega (arith, ap length (shown_text-number _ _ c.in-Number.is))
 
 pub put_text-requires : goal.put_text-requires
-put_text-requires c = omega (arith, ap length (shown_text-dash _ c.enum_told.given.1))
+put_text-requires c = omega (arith, ap length (shown_text-dash _ c.in-Dash.is))
 
 pub returns-in-Number : goal.returns-in-Number
-returns-in-Number c = rw (shown_text-number _ _ c.shown.given.1) c.put_decimal.ensures
+returns-in-Number c = rw (shown_text-number _ _ c.in-Number.is) c.put_decimal.ensures
 
 pub returns-in-Dash : goal.returns-in-Dash
-returns-in-Dash c = rw (shown_text-dash _ c.enum_told.given.1) c.put_text.ensures
+returns-in-Dash c = rw (shown_text-dash _ c.in-Dash.is) c.put_text.ensures

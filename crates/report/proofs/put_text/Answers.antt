@@ -1,8 +1,7 @@
 -- The first i characters are written.
-use Prim.Native.Nat.{◌-◌, ◌≤◌}
-use mathlib.Core.Path.{◌≡◌, refl, sym, ap, ◌∙◌}
+use mathlib.Core.Path.{refl, sym, ap, ◌∙◌}
 use native.Mathlib.Omega.{arith}
-use lib.ListN.{length, take, length-set}
+use lib.ListN.{length-set}
 use lib.Seq.{take_all}
 use Rattle.octets.specs.Overwrite.{overwrite}
 use Rattle.octets.proofs.Overwrite.{overwrite-nothing, overwrite-take-next}

@@ -3,7 +3,6 @@ use mathlib.Core.List.{[], ◌∷◌}
 use native.Mathlib.Omega.{arith}
 use Rattle.report.specs.Text.{passed_text, of_text, decimal_text, total_text}
 use Rattle.report.proofs.Text.{length-total_text, written_then, written_as, append-5}
-use borrow.Author.Rules.{rules}
 use Rattle.report.proofs.put_total.Goals as goal
 
 pub put_text-first-requires : goal.put_text-first-requires

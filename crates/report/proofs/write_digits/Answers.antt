@@ -1,10 +1,8 @@
 -- Writing the i digits of what is left makes the text that writing all n digits would have made.
-use Prim.Native.Nat.{◌≤◌}
 use mathlib.Core.Path.{◌≡◌, refl, sym, ◌∙◌}
 use native.Mathlib.Omega.{arith}
-use lib.ListN.{length, length-set}
+use lib.ListN.{length-set}
 use Rattle.octets.specs.Digits.{digits}
-use Rattle.octets.specs.Overwrite.{overwrite}
 use Rattle.octets.proofs.Overwrite.{overwrite-nothing}
 use Rattle.report.specs.Text.{decimal_digits}
 use Rattle.report.proofs.Text.{overwrite-decimal_digits}
