@@ -1,6 +1,5 @@
 use mathlib.Core.Path.{sym, ◌∙◌}
 use native.Mathlib.Omega.{arith}
-use borrow.Author.Rules.{rules}
 use Rattle.trace.specs.Read.{first_illegal}
 use Rattle.trace.proofs.Read.{illegal-in-part, all-legal}
 use Rattle.trace.proofs.first_illegal.Goals as goal

@@ -1,7 +1,6 @@
 use mathlib.Core.Path.{sym}
 use native.Mathlib.Omega.{arith}
 use Rattle.trace.proofs.Hex.{hex_digit-decimal, hex_digit-letter}
-use borrow.Author.Rules.{rules}
 use Rattle.trace.proofs.hex_digit.Goals as goal
 
 pub returns-then-d-lt10 : goal.returns-then-d-lt10

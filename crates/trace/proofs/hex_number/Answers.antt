@@ -1,5 +1,4 @@
 -- v is the number that the first i digits stand for.
-use Prim.Native.Nat.{◌-◌, ◌≤◌}
 use mathlib.Core.Path.{◌≡◌, refl, sym}
 use native.Mathlib.Omega.{arith}
 use Rattle.octets.specs.Digits.{number}

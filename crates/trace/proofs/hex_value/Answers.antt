@@ -2,7 +2,6 @@
 use mathlib.Core.Path.{sym}
 use native.Mathlib.Omega.{arith}
 use Rattle.trace.proofs.Hex.{digit-decimal, digit-letter, no-digit-below, no-digit-between, no-digit-above}
-use borrow.Author.Rules.{rules}
 use Rattle.trace.proofs.hex_value.Goals as goal
 
 pub returns-in-48-to-57 : goal.returns-in-48-to-57

@@ -1,28 +1,22 @@
 -- Each arm is a case of `may_stand`.
-use mathlib.Core.Path.{◌≡◌, sym, ◌∙◌}
-use mathlib.Core.Logic.{inl, inr}
+use mathlib.Core.Path.{sym}
 use native.Mathlib.Omega.{arith}
 use borrow.Author.Tests.{eq-eqb, ne_eqb}
 use Rattle.trace.proofs.Line.{may_stand-side, may_stand-space, may_stand-hex}
-use borrow.Author.Rules.{rules}
 use Rattle.trace.proofs.may_stand.Goals as goal
 
 pub returns-then-b-eq48 : goal.returns-then-b-eq48
 returns-then-b-eq48 c =
     let b = c.args.b in
-    rw (c.in-0.keys1, may_stand-side b, eq-eqb b 48 c.if-b-eq48.true)
+    rw (c.in-0.is, may_stand-side b, eq-eqb b 48 c.if-b-eq48.true)
 
 pub returns-else-b-eq48 : goal.returns-else-b-eq48
 returns-else-b-eq48 c =
     let b = c.args.b in
-    rw (c.in-0.keys1, may_stand-side b, ne_eqb b 48 c.if-b-eq48.false)
+    rw (c.in-0.is, may_stand-side b, ne_eqb b 48 c.if-b-eq48.false)
 
 pub returns-in-1 : goal.returns-in-1
-returns-in-1 c = sym (may_stand-space c.args.i c.args.b c.in-0.keys2)
+returns-in-1 c = sym (may_stand-space c.args.i c.args.b c.in-1.is)
 
 pub returns-in_default : goal.returns-in_default
-returns-in_default c =
-    let a = c.args in
-    let other = c.in-0.rest in
-    let one : a.i ≡ 1 → ⊥ = λ e. other.1 (inl e) in
-    c.is_hex.ensures ∙ sym (may_stand-hex a.i a.b (omega (arith, other.0.1)) (λ e. other.1 (inr e)))
+returns-in_default c = grind (arith, may_stand-hex)

@@ -1,10 +1,9 @@
 -- The first i bytes of the output are the line's, and the rest is as it was.
-use Prim.Native.Nat.{◌+◌, ◌*◌, ◌-◌, ◌≤◌}
+use Prim.Native.Nat.{◌+◌, ◌*◌}
 use mathlib.Core.Path.{◌≡◌, refl, sym}
 use native.Mathlib.Omega.{arith}
-use lib.ListN.{length, length-set}
+use lib.ListN.{length-set}
 use Rattle.octets.specs.Digits.{tabulate}
-use Rattle.octets.specs.Overwrite.{overwrite}
 use Rattle.octets.proofs.Overwrite.{overwrite-nothing, overwrite-tabulate}
 use Rattle.trace.specs.Hex.{hex_number}
 use Rattle.trace.specs.Line.{packet_length, line_packet}

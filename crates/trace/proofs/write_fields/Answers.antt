@@ -5,7 +5,6 @@ use mathlib.Core.List.{List}
 use native.Mathlib.Omega.{arith}
 use lib.ListN.{length, set, length-set}
 use Rattle.trace.proofs.Write.{overwrite-line_of}
-use borrow.Author.Rules.{rules}
 use Rattle.trace.proofs.write_fields.Goals as goal
 
 stores : (l : List ℕ) (side : ℕ) → length (set (set l 0 (48 + side)) 1 32) ≡ length l
@@ -22,9 +21,6 @@ bounds-line-14 c = let a = c.args in omega (arith, stores a.line.now a.side)
 
 pub write_packet-requires : goal.write_packet-requires
 write_packet-requires c = let a = c.args in simp length-set (omega (arith, stores a.line.now a.side))
-
-pub shape_of-line : goal.shape_of-line
-shape_of-line c = let a = c.args in omega (arith, stores a.line.now a.side, length-set c.write_hex.new.0 14 32)
 
 pub returns : goal.returns
 returns c =

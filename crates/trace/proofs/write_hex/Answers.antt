@@ -1,10 +1,8 @@
 -- Writing the i digits of what is left of v makes the line that writing all n digits of v would have made.
-use Prim.Native.Nat.{◌≤◌}
 use mathlib.Core.Path.{◌≡◌, refl, sym, ◌∙◌}
 use native.Mathlib.Omega.{arith}
-use lib.ListN.{length, length-set}
+use lib.ListN.{length-set}
 use Rattle.octets.specs.Digits.{digits}
-use Rattle.octets.specs.Overwrite.{overwrite}
 use Rattle.octets.proofs.Overwrite.{overwrite-nothing}
 use Rattle.trace.specs.Hex.{hex_digits}
 use Rattle.trace.proofs.Write.{overwrite-hex_digits}

@@ -9,7 +9,6 @@ use Rattle.choice.proofs.Choice.{when-true, when-false}
 use Rattle.trace.specs.Write.{write_line, line_after, line_after_writing, write_answer, writing}
 use Rattle.trace.specs.declared.LineWrite.{LineWrite}
 use Rattle.trace.proofs.Write.{write_line-written}
-use borrow.Author.Rules.{rules}
 use Rattle.trace.proofs.write_line.Goals as goal
 
 -- the bytes by what is written and the output alone, and document 01's numbers

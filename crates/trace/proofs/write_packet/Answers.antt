@@ -1,10 +1,9 @@
 -- Writing the pairs from byte i on makes the line that writing all pairs would have made.
-use Prim.Native.Nat.{◌+◌, ◌*◌, ◌-◌, ◌≤◌}
+use Prim.Native.Nat.{◌+◌, ◌*◌}
 use mathlib.Core.Path.{◌≡◌, refl, sym, ◌∙◌}
 use native.Mathlib.Omega.{arith}
-use lib.ListN.{length, drop}
+use lib.ListN.{length}
 use lib.Seq.{drop-length}
-use Rattle.octets.specs.Overwrite.{overwrite}
 use Rattle.octets.proofs.Overwrite.{overwrite-nothing}
 use Rattle.trace.specs.Hex.{hex_pairs}
 use Rattle.trace.proofs.Write.{overwrite-hex_pairs}
@@ -12,9 +11,6 @@ use Rattle.trace.proofs.write_packet.Goals as goal
 
 pub loop-i-init : goal.loop-i-init
 loop-i-init c = (omega arith, refl, refl)
-
-pub overflow_cast-packet : goal.overflow_cast-packet
-overflow_cast-packet c = omega (arith, c.shared-slice-known2.given c.loop-i.i)
 
 pub loop-i-preserved : goal.loop-i-preserved
 loop-i-preserved c =
