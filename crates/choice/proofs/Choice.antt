@@ -1,7 +1,7 @@
 -- Laws of a choice: by its test, and by the fact that the test asks for.
 use Prim.Native.Nat.{ℕ, ◌<◌, ◌≤◌}
 use mathlib.Core.Path.{◌≡◌, refl, ap}
-use mathlib.Core.Bool.{Bool, true, false, not}
+use mathlib.Core.Bool.{Bool, true, false, not, cond}
 use borrow.Author.Tests.{lt-ltb, le-ltb, le-leb, lt-leb, eq-eqb, ne_eqb}
 use Rattle.choice.specs.Choice.{when◌then◌else◌, ◌<ᵇ◌, ◌≤ᵇ◌, ◌=ᵇ◌, ◌≠ᵇ◌}
 
@@ -71,3 +71,9 @@ module _ {A : Type 0} {a b : ℕ} (x y : A) where
 -- two lists with the same first line: the rest need be the same only where its test fails
 pub when-else-past : {A : Type 0} {s t : Bool} (x : A) {y z : A} → s ≡ t → (s ≡ false → y ≡ z) → (when s then x else y) ≡ (when t then x else z)
 when-else-past {s} {t} x {y} {z} same rest = when-both ◌≡◌ s t x y x z same (λ e. refl) rest
+
+-- the library's own choice: its tactics decide on that one
+pub when_cond : {A : Type 0} (t : Bool) (x y : A) → (when t then x else y) ≡ cond t x y
+unfolding when◌then◌else◌
+when_cond true x y = refl
+when_cond false x y = refl

@@ -68,6 +68,7 @@ pub struct Decided {
 }
 
 // The life of a stage in ms.
+#[tactic(auto, using(choice::proofs::Choice::when_cond), unfolding(crate::specs::Stages::life_of))]
 pub fn life(stage: u8) -> u64
     ensures { (result ≡ life_of stage) × (result ≤ longest_life) }
 {
@@ -90,6 +91,7 @@ fn effective_window(segment: Segment) -> OctetCount
 
 impl End {
     // The sender's record after a segment of its own.
+    #[tactic(auto, using(choice::proofs::Choice::when_cond), unfolding(crate::specs::Ends::sent))]
     pub fn sent(self, segment: Segment) -> End
         ensures { result ≡ sent self segment }
     {
@@ -109,6 +111,7 @@ impl End {
     }
 
     // The record after an acknowledging segment of the other end.
+    #[tactic(auto, using(choice::proofs::Choice::when_cond), unfolding(crate::specs::Ends::granted))]
     pub fn granted(self, segment: Segment) -> End
         ensures { result ≡ granted self segment }
     {
@@ -158,6 +161,7 @@ impl End {
 }
 
 // Bounds I and II.
+#[tactic(auto, using(choice::proofs::Choice::when_cond), unfolding(crate::specs::Ranges::sequence_met))]
 fn sequence_met(from: End, to: End, segment: Segment) -> bool
     ensures { result ≡ sequence_met from to segment }
 {
@@ -171,6 +175,7 @@ fn sequence_met(from: End, to: End, segment: Segment) -> bool
 }
 
 // Bounds III and IV.
+#[tactic(auto, using(choice::proofs::Choice::when_cond), unfolding(crate::specs::Ranges::ack_met))]
 fn ack_met(to: End, segment: Segment) -> bool
     ensures { result ≡ ack_met ack_range to segment }
 {
@@ -181,6 +186,7 @@ fn ack_met(to: End, segment: Segment) -> bool
 }
 
 // The FIN bits with the sender's set: bit 0 the opener's, bit 1 the answerer's.
+#[tactic(auto, using(choice::proofs::Choice::when_cond), unfolding(crate::specs::Stages::with_fin))]
 fn with_fin(fins: u8, sender: usize) -> u8
     ensures { result ≡ with_fin fins sender }
 {
@@ -197,6 +203,7 @@ fn with_fin(fins: u8, sender: usize) -> u8
 }
 
 // The FIN bits after a segment.
+#[tactic(auto, using(choice::proofs::Choice::when_cond), unfolding(crate::specs::Stages::fins_after))]
 fn fins_after(fins: u8, sender: usize, segment: Segment) -> u8
     ensures { result ≡ fins_after fins sender segment.flags }
 {
@@ -207,6 +214,7 @@ fn fins_after(fins: u8, sender: usize, segment: Segment) -> u8
 }
 
 // The stage after a segment where no FIN bit is set.
+#[tactic(auto, using(choice::proofs::Choice::when_cond), unfolding(crate::specs::Stages::open_stage))]
 fn open_stage(stage: u8, sender: usize, segment: Segment) -> u8
     ensures { result ≡ open_stage stage sender segment.flags }
 {
@@ -229,6 +237,7 @@ fn open_stage(stage: u8, sender: usize, segment: Segment) -> u8
 }
 
 // The stage after a segment, by the FIN bits after it.
+#[tactic(auto, using(choice::proofs::Choice::when_cond), unfolding(crate::specs::Stages::stage_after))]
 fn stage_after(stage: u8, fins: u8, sender: usize, segment: Segment) -> u8
     ensures { result ≡ stage_after stage fins sender segment.flags }
 {
@@ -259,6 +268,7 @@ fn no_connection() -> Connection
 
 impl Connection {
     // The connection that an opening SYN makes.
+    #[tactic(auto, using(choice::proofs::Choice::when_cond), unfolding(crate::specs::Decision::opened))]
     pub fn opened(side: u8, segment: Segment, clock: u64) -> Connection
         requires { clock < 2 ^ 48 }
         ensures { result ≡ opened side segment clock }
@@ -280,6 +290,7 @@ impl Connection {
     }
 
     // Whether a segment is the opener's SYN again.
+    #[tactic(auto, using(choice::proofs::Choice::when_cond), unfolding(crate::specs::Decision::same_syn))]
     fn same_syn(self, sender: usize, segment: Segment) -> bool
         ensures { result ≡ same_syn self sender segment }
     {
@@ -298,6 +309,7 @@ impl Connection {
     }
 
     // Whether a segment is the answerer's reply to the SYN: SYN+ACK or ACK+RST.
+    #[tactic(auto, using(choice::proofs::Choice::when_cond), unfolding(crate::specs::Decision::reply))]
     fn reply(self, sender: usize, segment: Segment) -> bool
         ensures { result ≡ reply self sender segment }
     {
@@ -319,6 +331,7 @@ impl Connection {
     }
 
     // Row 13, or 0, in stage 1.
+    #[tactic(auto, using(choice::proofs::Choice::when_cond), unfolding(crate::specs::Decision::verdict_unanswered))]
     fn unanswered(self, sender: usize, segment: Segment) -> Verdict
         ensures { result ≡ verdict_unanswered self sender segment }
     {
@@ -332,6 +345,7 @@ impl Connection {
     }
 
     // Rows 14, 15 and 0.
+    #[tactic(auto, using(choice::proofs::Choice::when_cond), unfolding(crate::specs::Decision::verdict_by_ranges))]
     fn ranges(self, sender: usize, segment: Segment) -> Verdict
         requires { sender < 2 }
         ensures { result ≡ verdict_by_ranges self sender segment }
@@ -351,6 +365,7 @@ impl Connection {
     }
 
     // Rows 13 to 15 and 0.
+    #[tactic(auto, using(choice::proofs::Choice::when_cond), unfolding(crate::specs::Decision::verdict_on))]
     fn verdict(self, sender: usize, segment: Segment) -> Verdict
         requires { sender < 2 }
         ensures { (result ≡ verdict_on self sender segment) × (verdict_number result ≡ answer_on self sender segment) }
@@ -363,6 +378,7 @@ impl Connection {
     }
 
     // After the same SYN again.
+    #[tactic(auto, using(choice::proofs::Choice::when_cond), unfolding(crate::specs::Decision::repeated))]
     fn repeated(self, segment: Segment, clock: u64) -> Connection
         requires { clock < 2 ^ 48 }
         ensures { result ≡ repeated self segment clock }
@@ -382,6 +398,7 @@ impl Connection {
     }
 
     // After the SYN+ACK.
+    #[tactic(auto, using(choice::proofs::Choice::when_cond), unfolding(crate::specs::Decision::answered))]
     fn answered(self, segment: Segment, clock: u64) -> Connection
         requires { clock < 2 ^ 48 }
         ensures { result ≡ answered self segment clock }
@@ -401,6 +418,7 @@ impl Connection {
     }
 
     // The two records after a segment from stage 2 on.
+    #[tactic(auto, using(choice::proofs::Choice::when_cond), unfolding(crate::specs::Ends::ends_after))]
     fn ends_after(self, sender: usize, segment: Segment) -> [End; 2]
         requires { sender < 2 }
         ensures { result ≡ ends_after self.ends sender segment }
@@ -418,6 +436,7 @@ impl Connection {
     }
 
     // After a segment from stage 2 on.
+    #[tactic(auto, using(choice::proofs::Choice::when_cond), unfolding(crate::specs::Decision::carried))]
     fn carried(self, sender: usize, segment: Segment, clock: u64) -> Connection
         requires { (sender < 2) × (clock < 2 ^ 48) }
         ensures { result ≡ carried self sender segment clock }
@@ -437,6 +456,7 @@ impl Connection {
     }
 
     // After a reset from stage 2 on: the far end may not get it, so the connection goes on as it was, for a short life.
+    #[tactic(auto, using(choice::proofs::Choice::when_cond), unfolding(crate::specs::Decision::reset))]
     fn reset(self, clock: u64) -> Connection
         requires { clock < 2 ^ 48 }
         ensures { result ≡ reset self clock }
@@ -455,6 +475,7 @@ impl Connection {
     }
 
     // The connection that a pass at this clock used leaves; a reset in stage 1 frees it.
+    #[tactic(auto, using(choice::proofs::Choice::when_cond), unfolding(crate::specs::Decision::passed))]
     fn passed(self, sender: usize, segment: Segment, clock: u64) -> Connection
         requires { (sender < 2) × (clock < 2 ^ 48) }
         ensures { result ≡ passed self sender segment clock }
@@ -476,6 +497,7 @@ impl Connection {
     }
 
     // Rows 13 to 15 and 0 for a segment of the sender, 0 the opener or 1 the answerer, and the connection then.
+    #[tactic(auto, using(choice::proofs::Choice::when_cond), unfolding(crate::specs::Decision::decided))]
     pub fn decide(self, sender: usize, segment: Segment, clock: u64) -> Decided
         requires { (sender < 2) × (clock < 2 ^ 48) }
         ensures { (result ≡ decided self sender segment clock) × (verdict_number result.verdict ≡ answer_on self sender segment) }
