@@ -1,6 +1,5 @@
 use mathlib.Core.Path.{refl}
 use Rattle.table.proofs.Zeros.{tests-join}
-use borrow.Author.Rules.{rules}
 use Rattle.table.proofs.any16.Goals as goal
 
 pub returns : goal.returns

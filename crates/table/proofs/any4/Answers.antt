@@ -1,6 +1,5 @@
 use mathlib.Core.Path.{sym, ◌∙◌}
 use Rattle.table.proofs.Zeros.{number-zeros-4, zeros-4-number}
-use borrow.Author.Rules.{rules}
 use Rattle.table.proofs.any4.Goals as goal
 
 pub returns : goal.returns

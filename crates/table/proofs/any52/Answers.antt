@@ -1,7 +1,6 @@
 use mathlib.Core.Path.{refl}
 use native.Mathlib.Omega.{arith}
 use Rattle.table.proofs.Zeros.{tests-join}
-use borrow.Author.Rules.{rules}
 use Rattle.table.proofs.any52.Goals as goal
 
 pub returns : goal.returns

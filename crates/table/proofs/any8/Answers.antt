@@ -1,6 +1,5 @@
 use native.Mathlib.Omega.{arith}
 use Rattle.table.proofs.Zeros.{number-zeros-8, zeros-8-number}
-use borrow.Author.Rules.{rules}
 use Rattle.table.proofs.any8.Goals as goal
 
 pub returns : goal.returns

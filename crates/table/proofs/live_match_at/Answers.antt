@@ -1,6 +1,5 @@
 use mathlib.Core.Path.{sym, ◌∙◌}
 use Rattle.table.proofs.Match.{not-live-by-expired, live-by-match}
-use borrow.Author.Rules.{rules}
 use Rattle.table.proofs.live_match_at.Goals as goal
 
 pub returns-then-vacant_at : goal.returns-then-vacant_at

@@ -2,10 +2,8 @@
 use Prim.Native.Nat.{◌%◌}
 use mathlib.Core.Path.{◌≡◌, sym, ◌∙◌}
 use native.Mathlib.Omega.{arith}
-use borrow.Author.Tests.{not-true, not-false}
 use Rattle.choice.proofs.Tests.{eqb-0≡test}
 use Rattle.table.proofs.Words.{entry-of-no-word, entry-not-by-word, entry-not-by-numbers, entry-unanswered, entry-answered}
-use borrow.Author.Rules.{rules}
 use Rattle.table.proofs.sound_entry.Goals as goal
 
 pub returns-then-word-eq0 : goal.returns-then-word-eq0
@@ -17,8 +15,8 @@ pub returns-then-not-sound_word : goal.returns-then-not-sound_word
 returns-then-not-sound_word c =
     let some = c in
     let w = some.little32-word.ensures in
-    let no = sym c.sound_word.ensures ∙ not-true _ c.if-not-sound_word.true in
-    sym (entry-not-by-word _ _ _ _ _ w.1 w.0 some.if-word-eq0.false no)
+    let no = sym c.sound_word.ensures ∙ c.if-not-sound_word.true in
+    sym (entry-not-by-word _ _ _ _ _ w.octets w.value some.if-word-eq0.false no)
 
 pub returns-then-not-sound_numbers : goal.returns-then-not-sound_numbers
 returns-then-not-sound_numbers c =
@@ -27,8 +25,8 @@ returns-then-not-sound_numbers c =
     let numbers = opener in
     let some = numbers in
     let w = some.little32-word.ensures in
-    let no = sym c.sound_numbers.ensures ∙ not-true _ c.if-not-sound_numbers.true in
-    sym (entry-not-by-numbers _ _ _ _ _ w.1 w.0 some.if-word-eq0.false _ _ _ numbers.numbers_at-numbers.ensures opener.load_end-opener.ensures
+    let no = sym c.sound_numbers.ensures ∙ c.if-not-sound_numbers.true in
+    sym (entry-not-by-numbers _ _ _ _ _ w.octets w.value some.if-word-eq0.false _ _ _ numbers.numbers_at-numbers.ensures opener.load_end-opener.ensures
     answerer.load_end-answerer.ensures no)
 
 pub returns-in-1 : goal.returns-in-1
@@ -40,11 +38,11 @@ returns-in-1 c =
     let word = numbers in
     let some = word in
     let w = some.little32-word.ensures in
-    let stage : some.little32-word.result % 256 ≡ 1 = omega (arith, c.in_default.keys1) in
+    let stage : some.little32-word.result % 256 ≡ 1 = omega (arith, c.in-1.is) in
     c.sound_unanswered.ensures
-    ∙ sym (entry-unanswered _ _ _ _ _ w.1 w.0 some.if-word-eq0.false _ _ _ numbers.numbers_at-numbers.ensures opener.load_end-opener.ensures
-    answerer.load_end-answerer.ensures (sym word.sound_word.ensures ∙ not-false _ word.if-not-sound_word.false)
-    (sym sound.sound_numbers.ensures ∙ not-false _ sound.if-not-sound_numbers.false) stage)
+    ∙ sym (entry-unanswered _ _ _ _ _ w.octets w.value some.if-word-eq0.false _ _ _ numbers.numbers_at-numbers.ensures opener.load_end-opener.ensures
+    answerer.load_end-answerer.ensures (sym word.sound_word.ensures ∙ word.if-not-sound_word.false)
+    (sym sound.sound_numbers.ensures ∙ sound.if-not-sound_numbers.false) stage)
 
 pub returns-in_default : goal.returns-in_default
 returns-in_default c =
@@ -55,6 +53,6 @@ returns-in_default c =
     let word = numbers in
     let some = word in
     let w = some.little32-word.ensures in
-    sym (entry-answered _ _ _ _ _ w.1 w.0 some.if-word-eq0.false _ _ _ numbers.numbers_at-numbers.ensures opener.load_end-opener.ensures
-    answerer.load_end-answerer.ensures (sym word.sound_word.ensures ∙ not-false _ word.if-not-sound_word.false)
-    (sym sound.sound_numbers.ensures ∙ not-false _ sound.if-not-sound_numbers.false) (λ (e : some.little32-word.result % 256 ≡ 1). c.in_default.rest.1 (omega (arith, e))))
+    sym (entry-answered _ _ _ _ _ w.octets w.value some.if-word-eq0.false _ _ _ numbers.numbers_at-numbers.ensures opener.load_end-opener.ensures
+    answerer.load_end-answerer.ensures (sym word.sound_word.ensures ∙ word.if-not-sound_word.false)
+    (sym sound.sound_numbers.ensures ∙ sound.if-not-sound_numbers.false) (λ (e : some.little32-word.result % 256 ≡ 1). omega arith))

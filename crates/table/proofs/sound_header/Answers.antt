@@ -2,7 +2,6 @@ use mathlib.Core.Path.{sym, ◌∙◌}
 use native.Mathlib.Omega.{arith}
 use Rattle.choice.proofs.Tests.{eqb-0≡test}
 use Rattle.table.proofs.Words.{header-not-by-clock, header-not-by-version, header-by-rest}
-use borrow.Author.Rules.{rules}
 use Rattle.table.proofs.sound_header.Goals as goal
 
 pub returns-then-clock-ge281474976710656 : goal.returns-then-clock-ge281474976710656

@@ -1,11 +1,10 @@
 -- The last arm is reached below 1 and above 3.
 use Prim.Native.Nat.{ℕ, ◌+◌, ◌*◌, ◌/◌, ◌%◌}
 use mathlib.Core.Path.{sym}
-use mathlib.Core.Logic.{⊎_elim}
 use native.Mathlib.Omega.{arith}
 use Rattle.table.proofs.Words.{marks-of-1-to-3, marks-in-4, marks-in-5, marks-in-6, SoundWord, usual, four-1, four-2, five, six-0, six-1, six-2, six-3, marks-of-no-other, word-without-side}
-use borrow.Author.Rules.{rules}
 use Rattle.table.proofs.sound_word.Goals as goal
+use Rattle.table.proofs.sound_word.Goals.{in_default-via-then-k-lt1, in_default-via-else-k-lt1+else-k-lt4}
 
 pub returns-in-1-to-3 : goal.returns-in-1-to-3
 returns-in-1-to-3 c = sym (marks-of-1-to-3 _ _ _ _ _ (word-without-side _) (omega arith) (omega arith) (omega arith) (omega arith) (omega arith))
@@ -38,11 +37,12 @@ returns-in_default-k c = sym (marks-of-no-other _ _ _ _ _ (word-without-side _) 
     w = c.args.w
 
     unknown : SoundWord (w % 256 + w / 512 * 512) → ⊥
-    unknown (usual low high) = ⊎_elim (λ below. omega arith) (λ above. omega arith) c.if-k-lt1.branch
-    unknown (four-1 e) = c.in-65540.rest.0.0.0.0.0.0.1 e
-    unknown (four-2 e) = c.in-65540.rest.0.0.0.0.0.1 e
-    unknown (five e) = c.in-65540.rest.0.0.0.0.1 e
-    unknown (six-0 e) = c.in-65540.rest.0.0.0.1 e
-    unknown (six-1 e) = c.in-65540.rest.0.0.1 e
-    unknown (six-2 e) = c.in-65540.rest.0.1 e
-    unknown (six-3 e) = c.in-65540.rest.1 e
+    unknown (usual low high) =
+        elim c.in_default.branch [ in_default-via-then-k-lt1 w ↦ omega arith | in_default-via-else-k-lt1+else-k-lt4 w ↦ omega arith ]
+    unknown (four-1 e) = omega arith
+    unknown (four-2 e) = omega arith
+    unknown (five e) = omega arith
+    unknown (six-0 e) = omega arith
+    unknown (six-1 e) = omega arith
+    unknown (six-2 e) = omega arith
+    unknown (six-3 e) = omega arith

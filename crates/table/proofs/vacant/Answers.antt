@@ -1,15 +1,11 @@
 -- What is left to search: the places from `next` on.
-use Prim.Native.Nat.{◌-◌, ◌≤◌}
-use mathlib.Core.Path.{◌≡◌, sym, ◌∙◌}
+use mathlib.Core.Path.{sym, ◌∙◌}
 use native.Mathlib.Omega.{arith}
 use native.Mathlib.Nat.{sub-zero}
 use Rattle.rows.specs.Rows as rows
-use Rattle.rows.specs.Places.{first_from}
 use Rattle.rows.specs.Connections.{connections}
 use Rattle.rows.proofs.Places.{first-is-here, first-is-further, first-is-nothing}
-use Rattle.entry.specs.Layout.{entry_size, place_at}
 use Rattle.entry.proofs.Places.{first-place, next_place, place_inside}
-use Rattle.table.specs.Table.{view_of}
 use Rattle.table.proofs.Match.{tested_at}
 use borrow.Author.Rules.{rules}
 use Rattle.table.proofs.vacant.Goals as goal

@@ -4,7 +4,6 @@ use Rattle.choice.specs.Choice.{◌≤ᵇ◌}
 use Rattle.octets.specs.BigEndian.{big_endian}
 use Rattle.rows.specs.Rows.{vacant}
 use Rattle.entry.specs.Layout.{entry_at, connection_at}
-use borrow.Author.Rules.{rules}
 use Rattle.table.proofs.vacant_at.Goals as goal
 
 pub returns : goal.returns
