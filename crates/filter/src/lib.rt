@@ -98,6 +98,7 @@ fn passed(place: usize, clock: u64, entry: Entry) -> Decision
 }
 
 // The end that sent a matching segment: 0 the opener, 1 the answerer.
+#[tactic(auto, using(choice::proofs::Choice::when_cond), unfolding(rows::specs::Rows::sender_of))]
 fn sender(entry: Entry, side: u8) -> usize
     ensures { (result ≡ sender_of connections (viewed entry) side) × (result < 2) }
 {
@@ -108,6 +109,7 @@ fn sender(entry: Entry, side: u8) -> usize
 }
 
 // An entry by its connection after a pass: free, if the pass has freed that.
+#[tactic(auto, using(choice::proofs::Choice::when_cond), unfolding(rows::specs::Rows::entry_with))]
 fn entry_after(entry: Entry, after: Connection) -> Entry
     ensures { result ≡ stored (entry_with connections (viewed entry) after) }
 {
@@ -139,6 +141,7 @@ fn on_entry(entry: Entry, place: usize, clock: u64, side: u8, segment: Segment) 
 }
 
 // The entry that an opening SYN makes.
+#[tactic(auto, using(choice::proofs::Choice::when_cond), unfolding(rows::specs::Rows::opening_entry))]
 fn opening_entry(clock: u64, side: u8, flow: Flow, segment: Segment) -> Entry
     requires { clock < 2 ^ 48 }
     ensures { result ≡ stored (opening_entry connections clock side flow segment) }
@@ -151,6 +154,7 @@ fn opening_entry(clock: u64, side: u8, flow: Flow, segment: Segment) -> Entry
 }
 
 // Rows 11, 12 and 0, for a segment that no live connection matches.
+#[tactic(auto, using(choice::proofs::Choice::when_cond), unfolding(entry::specs::Layout::place_at, rows::specs::Rows::unmatched))]
 fn unmatched(
     version: Version,
     table: &[u8],
@@ -200,6 +204,7 @@ fn on_segment(
 }
 
 // A pass stores the clock used and its entry; every other answer changes no byte.
+#[tactic(auto, using(choice::proofs::Choice::when_cond), unfolding(crate::specs::Decision::table_left_by))]
 fn commit(version: Version, table: &mut [u8], decision: Decision)
     requires { PassInside version table.old decision }
     ensures { table.new ≡ table_left_by version table.old decision }

@@ -11,10 +11,9 @@ use Rattle.table.specs.Table.{view_of}
 use Rattle.filter.specs.Call.{packet_rows}
 use Rattle.filter.specs.Decision.{decision_of}
 use Rattle.filter.proofs.Rows.{NotRefused, not-refused, past-row-4, legal-length-bounds, places-inside, sound-table-clock}
-use Rattle.filter.proofs.decide.Statement.{statement}
-use Rattle.filter.proofs.decide.Tie as tie
+use Rattle.filter.proofs.decide.Goals as goal
 
-module _ (s : tie.Start) where
+module _ (s : goal.Start) where
   fine : let a = s.args in NotRefused a.version a.side a.clock a.table.now
   fine = let a = s.args in not-refused a.version a.side a.clock a.table.now s.requires
 
@@ -24,35 +23,32 @@ module _ (s : tie.Start) where
   whole : header_size ≤ length s.args.table.now
   whole = omega (arith, header-first s.args.version 1, long)
 
-places-for-requires : tie.Need-places-for-requires
-places-for-requires c κs = whole c.before
+pub places_for-places-requires : goal.places_for-places-requires
+places_for-places-requires c = whole c
 
-clock-used-requires : tie.Need-clock-used-requires
-clock-used-requires c κs = whole c.before.before
+pub clock_used-used-requires : goal.clock_used-used-requires
+clock_used-used-requires c = whole c
 
-cast-side : tie.Need-overflow-cast-side
-cast-side c = omega (arith, (fine c.before.before.before).side_known)
+pub overflow_cast-side : goal.overflow_cast-side
+overflow_cast-side c = omega (arith, (fine c).side_known)
 
-on-read-requires : tie.Need-on-read-requires
-on-read-requires c κs =
-    let s = c.before.before.before in
+pub on_read-requires : goal.on_read-requires
+on_read-requires c =
+    let s = c in
     let a = s.args in
-    let places = ap (place_at a.version) c.before.places-for.ensures in
+    let places = ap (place_at a.version) c.places_for-places.ensures in
     let header = sound-table-clock a.version a.table.now _ (fine s).sound in (
       omega (arith, places, places-inside a.version (length a.table.now) (long s)),
-      omega (arith, header, c.clock-used.ensures, (fine s).clock-small),
+      omega (arith, header, c.clock_used-used.ensures, (fine s).clock-small),
     )
 
-returns : tie.Need-returns
+pub returns : goal.returns
 returns c =
-    let u = c.before in
-    let s = u.before.before.before in
+    let u = c in
+    let s = u in
     let a = s.args in
-    let places = u.before.places-for.ensures in
+    let places = u.places_for-places.ensures in
     c.on_read.ensures
     ∙ (λ i. decision_of (packet_rows Blocked a.read
-    (on_segment connections (view_of a.version a.table.now (places i)) (u.clock-used.ensures i) a.side)))
+    (on_segment connections (view_of a.version a.table.now (places i)) (u.clock_used-used.ensures i) a.side)))
     ∙ ap decision_of (sym (past-row-4 a.version a.side a.clock a.table.now s.requires a.read))
-
-pub decide-spec : {M : Type 1} → statement M
-decide-spec = tie.close (tie.spec places-for-requires clock-used-requires cast-side on-read-requires returns)
