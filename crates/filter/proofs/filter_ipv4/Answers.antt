@@ -5,7 +5,6 @@ use Rattle.packet.specs.Read.{read_ipv4}
 use Rattle.packet.specs.declared.PacketRead.{PacketRead}
 use Rattle.filter.specs.Call.{Outcome, outcome_of, reply_of, table_after}
 use Rattle.filter.proofs.Rows.{refused-by-number}
-use borrow.Author.Rules.{rules}
 use Rattle.filter.proofs.filter_ipv4.Goals as goal
 
 pub returns-then-refused-ne0 : goal.returns-then-refused-ne0

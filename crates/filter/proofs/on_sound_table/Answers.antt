@@ -3,7 +3,6 @@ use mathlib.Core.Path.{ap, ◌∙◌}
 use Rattle.filter.specs.Call.{outcome_of}
 use Rattle.filter.specs.Decision.{table_left_by}
 use Rattle.filter.proofs.Within.{table_left_by≡table_after, reply≡reply_of, outcome-within, decision-fits}
-use borrow.Author.Rules.{rules}
 use Rattle.filter.proofs.on_sound_table.Goals as goal
 
 pub decide-decision-requires : goal.decide-decision-requires
