@@ -1,0 +1,10 @@
+use Rattle.std.proofs.Common.{◌≡◌, ◌-◌, ◌≤◌, length, drop}
+use Rattle.script.specs.Output.{with_bytes}
+use Rattle.script.proofs.put_bytes.Given as goal
+
+-- adding what is left of the bytes gives what adding all of them would have given
+abbrev pub invariant-loop-i : goal.invariant-loop-i
+invariant-loop-i g l = (l.n ≤ 65536) × (with_bytes (l.out, l.n) (drop l.i l.bytes) ≡ with_bytes (l.initial.out, l.initial.n) l.bytes)
+
+abbrev pub decreases-loop-i : goal.decreases-loop-i
+decreases-loop-i g l = length l.bytes - l.i
