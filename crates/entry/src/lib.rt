@@ -51,6 +51,7 @@ pub fn entry_size(version: Version) -> usize
 }
 
 // Where the entry at a place begins.
+#[tactic(auto, using(choice::proofs::Choice::when_cond), unfolding(crate::specs::Layout::place_at))]
 pub fn place_at(version: Version, place: usize) -> usize
     requires { place_at version place < 2 ^ 64 }
     ensures { result ≡ place_at version place }
@@ -108,6 +109,7 @@ pub fn load_end(table: &[u8], at: usize) -> End
 }
 
 // An entry without its addresses and ports, by where it and its numbers begin.
+#[tactic(auto, using(choice::proofs::Choice::when_cond), unfolding(crate::specs::Layout::connection_at))]
 fn load_connection(table: &[u8], at: usize, numbers: usize) -> Connection
     requires { (at + 4 ≤ length table.now) × (numbers + 32 ≤ length table.now) }
     ensures { result ≡ connection_at table.now at numbers }
@@ -128,6 +130,7 @@ fn load_connection(table: &[u8], at: usize, numbers: usize) -> Connection
 }
 
 // The entry at a place.
+#[tactic(auto, using(choice::proofs::Choice::when_cond), unfolding(crate::specs::Layout::entry_at, crate::specs::Layout::place_at))]
 pub fn load(version: Version, table: &[u8], place: usize) -> Entry
     requires { place_at version place + entry_size version ≤ length table.now }
     ensures { result ≡ entry_at version table.now (place_at version place) }

@@ -146,15 +146,15 @@ module _ (t₀ : View connections) (P : Pair) where
   abbrev Seen : Type 0
   Seen = List (Event ViewCall)
 
-  abbrev openers_syn : (p : LineSegment) (L : Seen) → Test (OpenersSyn P p L)
-  openers_syn p L =
+  abbrev openers_syn_test : (p : LineSegment) (L : Seen) → Test (OpenersSyn P p L)
+  openers_syn_test p L =
       so (λ h. record { by_opener = h.0; flags = h.1.0; start = h.1.1.0; until_syn_ack = h.1.1.1 })
       (both (equal p.from 0)
       (both (equal p.flags SYN)
       (both (equal p.start (P.start 0)) (is_false (has_answer 0 L)))))
 
-  abbrev answerers_syn_ack : (p : LineSegment) (L : Seen) → Test (AnswerersSynAck P p L)
-  answerers_syn_ack p L =
+  abbrev answerers_syn_ack_test : (p : LineSegment) (L : Seen) → Test (AnswerersSynAck P p L)
+  answerers_syn_ack_test p L =
       so (λ h. record {
         by_answerer = h.0;
         has_syn = h.1.0;
@@ -169,8 +169,8 @@ module _ (t₀ : View connections) (P : Pair) where
       (both (equal p.start (P.start 1))
       (both (equal p.acked (P.start 0 + 1)) (is_false (has_answer 1 L)))))))
 
-  abbrev later_segment : (p : LineSegment) (L : Seen) → Test (LaterSegment P p L)
-  later_segment p L =
+  abbrev later_segment_test : (p : LineSegment) (L : Seen) → Test (LaterSegment P p L)
+  later_segment_test p L =
       so (λ h. record {
         by_either = h.0.0;
         after_answer = h.0.1.0;
@@ -192,13 +192,13 @@ module _ (t₀ : View connections) (P : Pair) where
       (both (at_most (P.start (other_end p.from) + 1) p.acked)
       (both (at_most p.acked (highest end_of (received_by p.from L))) (at_most (highest ack_of (sent_by p.from L)) p.acked)))))
 
-  abbrev any_reset : (p : LineSegment) (L : Seen) → Test (AnyReset P p L)
-  any_reset p L = so (λ h. record { by_either = h.0; is_reset = h.1 }) (both (below p.from 2) (equal (rst p.flags) 1))
+  abbrev any_reset_test : (p : LineSegment) (L : Seen) → Test (AnyReset P p L)
+  any_reset_test p L = so (λ h. record { by_either = h.0; is_reset = h.1 }) (both (below p.from 2) (equal (rst p.flags) 1))
 
   abbrev allowed : (p : LineSegment) (L : Seen) → Test (Allowed P p L)
   allowed p L =
       so (λ h. ⊎_elim (λ r. openers_syn r) (λ h. ⊎_elim (λ r. answerers_syn_ack r) (λ h. ⊎_elim (λ r. later r) (λ r. any_reset r) h) h) h)
-      (either (openers_syn p L) (either (answerers_syn_ack p L) (either (later_segment p L) (any_reset p L))))
+      (either (openers_syn_test p L) (either (answerers_syn_ack_test p L) (either (later_segment_test p L) (any_reset_test p L))))
 
   abbrev was_sent : (k : ℕ) (p : LineSegment) (L : Seen) → Test (Sent k p L)
   was_sent k p [] = no

@@ -48,7 +48,8 @@ module _ {Call : Type 0} where
   sent-in k p s (send g ∷ L) sent =
       ⊎_elim
       (λ (now : (p ≡ g) × (k ≡ length (sent_by g.from L)) × (s ≡ snapshot g L)).
-      rw (now.0, when-= {a = g.from} {b = g.from} (g ∷ sent_by g.from L) (sent_by g.from L) refl) (inl refl, omega (arith, now.1)))
+      let Among : LineSegment → Type 0 = λ x. In x (sent_by x.from (send g ∷ L)) × (k < length (sent_by x.from (send g ∷ L))) in
+      subst Among (sym now.0) (rw (when-= {a = g.from} {b = g.from} (g ∷ sent_by g.from L) (sent_by g.from L) refl) (inl refl, omega (arith, now.1))))
       (λ (before : SentWith k p s L). kept (eqb g.from p.from) (sent-in k p s L before))
       sent
     where
@@ -69,7 +70,9 @@ module _ {Call : Type 0} where
   snapshot-received k p s (send g ∷ L) sent no_syn =
       ⊎_elim
       (λ (now : (p ≡ g) × (k ≡ length (sent_by g.from L)) × (s ≡ snapshot g L)).
-      rw (now.0, now.1, now.2) (by (ap (λ (f : LineSegment). syn f.flags) (sym now.0) ∙ no_syn)))
+      let Taken : LineSegment → ℕ → Type 0 = λ x j. s ≡ highest_ack_at_sending x.from j (send g ∷ L) in
+      subst (λ x. Taken x k) (sym now.0)
+      (subst (λ j. Taken g j) (sym now.1) (now.2 ∙ by (ap (λ (f : LineSegment). syn f.flags) (sym now.0) ∙ no_syn))))
       (λ (before : SentWith k p s L).
       let another = ne_eqb (length (sent_by p.from L)) k (λ e. omega (arith, (sent-in k p s L before).1)) in
       snapshot-received k p s L before no_syn ∙ sym (when-false _ _ _ (rw another (and-false (g.from =ᵇ p.from)))))
