@@ -1,9 +1,10 @@
 // Reads a script by lines and collects the output, for the programs that run one.
 #![tactic(auto)]
 
-ghost use Rattle.std.specs.Prelude.{◌≡◌, ◌+◌, ◌*◌, ◌%◌, ◌^◌, ◌<◌, ◌≤◌, length, drop, slice_index, IfOk, OnErr};
+ghost use Rattle.std.specs.Prelude.{◌≡◌, ◌+◌, ◌*◌, ◌%◌, ◌^◌, ◌<◌, ◌≤◌, length, drop, slice_index, [], ◌∷◌, IfOk, OnErr};
+ghost use Rattle.std.specs.Io.KnownBytes.{Appends};
 ghost use Rattle.report.specs.Text.{decimal_text};
-ghost use Rattle.script.specs.Output.{with_byte, with_bytes};
+ghost use Rattle.script.specs.Output.{with_byte, with_bytes, all_put};
 ghost use Rattle.script.specs.Fields.{decimal_value, decimal_field, fields_text};
 
 // The programs use it too.
@@ -175,6 +176,7 @@ pub fn decimal_field(line: &[u8], at: usize) -> u64
 #[tactic(auto, using(choice::proofs::Choice::when_cond), unfolding(crate::specs::Output::with_byte))]
 pub fn put<W: Write>(writer: &mut W, out: &mut Output, used: usize, b: u8) -> io::Result<usize>
     ensures result_after { IfOk result (λ n. (out.new, n) ≡ with_byte (out.old, used) b) }
+    ensures written { IfOk result (λ n. Appends (all_put (W.contents writer.old) (out.old, used)) (all_put (W.contents writer.new) (out.new, n)) (b ∷ [])) }
     ensures upper_bound { IfOk result (λ n. n ≤ 65536) }
     ensures unchanged { OnErr result (out.new ≡ out.old) }
 {
@@ -195,6 +197,7 @@ pub fn put_bytes<W: Write>(
 ) -> io::Result<usize>
     requires { used ≤ 65536 }
     ensures result_after { IfOk result (λ n. (out.new, n) ≡ with_bytes (out.old, used) bytes.now) }
+    ensures written { IfOk result (λ n. Appends (all_put (W.contents writer.old) (out.old, used)) (all_put (W.contents writer.new) (out.new, n)) bytes.now) }
     ensures upper_bound { IfOk result (λ n. n ≤ 65536) }
     ensures length_kept { OnErr result (length out.new ≡ length out.old) }
 {
@@ -215,6 +218,7 @@ pub fn put_decimal<W: Write>(
 ) -> io::Result<usize>
     requires { used ≤ 65536 }
     ensures result_after { IfOk result (λ n. (out.new, n) ≡ with_bytes (out.old, used) (decimal_text v)) }
+    ensures written { IfOk result (λ n. Appends (all_put (W.contents writer.old) (out.old, used)) (all_put (W.contents writer.new) (out.new, n)) (decimal_text v)) }
     ensures upper_bound { IfOk result (λ n. n ≤ 65536) }
     ensures length_kept { OnErr result (length out.new ≡ length out.old) }
 {
@@ -233,6 +237,7 @@ pub fn put_fields<W: Write>(
 ) -> io::Result<usize>
     requires { used ≤ 65536 }
     ensures result_after { IfOk result (λ n. (out.new, n) ≡ with_bytes (out.old, used) (fields_text first rest.now)) }
+    ensures written { IfOk result (λ n. Appends (all_put (W.contents writer.old) (out.old, used)) (all_put (W.contents writer.new) (out.new, n)) (fields_text first rest.now)) }
     ensures upper_bound { IfOk result (λ n. n ≤ 65536) }
     ensures length_kept { OnErr result (length out.new ≡ length out.old) }
 {

@@ -1,15 +1,26 @@
-use Rattle.std.proofs.Common.{sym, ◌∙◌, arith}
+use Rattle.std.proofs.Common.{refl, sym, ◌∙◌, arith}
 use Rattle.script.proofs.Output.{with_bytes-next, with_bytes-all}
+use Rattle.script.proofs.Written.{Appends-nothing, put-next, put-all}
 use Rattle.script.proofs.put_bytes.Goals as goal
+
+pub loop-i-init : goal.loop-i-init
+loop-i-init g c = record { upper_bound = omega arith; left = refl; put = Appends-nothing _ }
 
 pub loop-i-preserved : goal.loop-i-preserved
 loop-i-preserved g c =
     let bytes = c.args.bytes.now in
     let l = c.loop-i in
     let put = c.in_ok-n.ensures in
-    (put.upper_bound, with_bytes-next (l.out, l.n) _ bytes l.i (omega arith) put.result_after ∙ l.invariant.1)
+    record {
+      upper_bound = put.upper_bound;
+      left = with_bytes-next (l.out, l.n) _ bytes l.i (omega arith) put.result_after ∙ l.invariant.left;
+      put = put-next _ _ _ bytes l.i (omega arith) l.invariant.put put.written;
+    }
 
 pub returns-clause-result_after : goal.returns-clause-result_after
 returns-clause-result_after g c =
     let l = c.loop-i in
-    sym (with_bytes-all (l.out, l.n) c.args.bytes.now l.i (omega arith)) ∙ l.invariant.1
+    sym (with_bytes-all (l.out, l.n) c.args.bytes.now l.i (omega arith)) ∙ l.invariant.left
+
+pub returns-clause-written : goal.returns-clause-written
+returns-clause-written g c = put-all _ _ c.args.bytes.now c.loop-i.i (omega arith) c.loop-i.invariant.put

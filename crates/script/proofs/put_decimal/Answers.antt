@@ -24,3 +24,9 @@ returns-clause-result_after g c =
     let v = c.args.v in
     let text = text_in-front _ _ (decimal_text v) _ (length-decimal_text≤20 v) c.put_decimal-n.ensures in
     rw text at c.put_bytes.ensures.result_after
+
+pub returns-clause-written : goal.returns-clause-written
+returns-clause-written g c =
+    let v = c.args.v in
+    let text = text_in-front _ _ (decimal_text v) _ (length-decimal_text≤20 v) c.put_decimal-n.ensures in
+    rw text at c.put_bytes.ensures.written

@@ -1,17 +1,25 @@
-use Rattle.std.proofs.Common.{sym, ap, ◌∙◌, arith}
+use Rattle.std.proofs.Common.{refl, sym, ap, ◌∙◌, arith}
 use Rattle.report.specs.Text.{decimal_text}
 use Rattle.script.specs.Output.{with_bytes}
 use Rattle.script.specs.Fields.{spaced, fields_text}
 use Rattle.script.proofs.Output.{with_bytes-append, with_bytes-spaced, with_bytes-spaced-all}
+use Rattle.script.proofs.Written.{Appends-then, put_spaced-none, put_spaced-next, put_spaced-all}
 use Rattle.script.proofs.put_fields.Goals as goal
+
+pub loop-i-init : goal.loop-i-init
+loop-i-init g c = record { upper_bound = c.in_ok-n.ensures.upper_bound; left = refl; put = put_spaced-none _ c.args.rest.now }
 
 pub loop-i-preserved : goal.loop-i-preserved
 loop-i-preserved g c =
     let rest = c.args.rest.now in
     let l = c.loop-i in
-    let space = c.in_ok-n-2.ensures.result_after in
+    let space = c.in_ok-n-2.ensures in
     let number = c.in_ok-n-3.ensures in
-    (number.upper_bound, with_bytes-spaced (l.out, l.n) _ _ rest l.i (omega arith) space number.result_after ∙ l.invariant.1)
+    record {
+      upper_bound = number.upper_bound;
+      left = with_bytes-spaced (l.out, l.n) _ _ rest l.i (omega arith) space.result_after number.result_after ∙ l.invariant.left;
+      put = put_spaced-next _ _ _ _ rest l.i (omega arith) l.invariant.put space.written number.written;
+    }
 
 pub returns-clause-result_after : goal.returns-clause-result_after
 unfolding fields_text
@@ -20,6 +28,13 @@ returns-clause-result_after g c =
     let l = c.loop-i in
     let rest = a.rest.now in
     sym (with_bytes-spaced-all (l.out, l.n) rest l.i (omega arith))
-    ∙ l.invariant.1
+    ∙ l.invariant.left
     ∙ ap (λ held. with_bytes held (spaced rest)) c.in_ok-n.ensures.result_after
     ∙ sym (with_bytes-append (a.out.now, a.used) (decimal_text a.first) (spaced rest))
+
+pub returns-clause-written : goal.returns-clause-written
+unfolding fields_text
+returns-clause-written g c =
+    let rest = c.args.rest.now in
+    let l = c.loop-i in
+    Appends-then _ _ _ (decimal_text c.args.first) (spaced rest) c.in_ok-n.ensures.written (put_spaced-all _ _ rest l.i (omega arith) l.invariant.put)
