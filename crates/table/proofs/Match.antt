@@ -1,8 +1,9 @@
 -- Laws of a match: the side decides, or the addresses and ports; and a match is live if it is not expired.
-use Prim.Native.Nat.{ℕ, ◌-◌}
-use mathlib.Core.Path.{◌≡◌, sym, ap, ◌∙◌}
+use Prim.Native.Nat.{ℕ, ◌+◌, ◌-◌}
+use mathlib.Core.Path.{◌≡◌, refl, sym, ap, ◌∙◌}
 use mathlib.Core.Bool.{Bool, true, false, ◌||◌, and-true, and-false}
 use mathlib.Core.List.{List}
+use lib.ListN.{get_or}
 use borrow.Author.Tests.{lt-ltb, le-ltb, leb-true, leb-false}
 use Rattle.choice.specs.Choice.{◌=ᵇ◌}
 use Rattle.address.specs.Flows.{same_flow, reversed}
@@ -11,7 +12,7 @@ use Rattle.address.specs.declared.Flow.{Flow}
 use Rattle.rows.specs.Rows as rows
 use Rattle.rows.specs.Rows.{from_opener, from_answerer, live_match, vacant}
 use Rattle.rows.specs.Connections.{connections}
-use Rattle.entry.specs.Layout.{place_at, entry_at}
+use Rattle.entry.specs.Layout.{place_at, entry_at, connection_at}
 use Rattle.entry.specs.Viewed.{viewed}
 use Rattle.entry.specs.declared.Entry.{Entry}
 
@@ -43,6 +44,26 @@ module _ (e : Entry) (side : ℕ) (k : Flow) where
         live_match connections clock side k (viewed e) ≡ (from_opener connections (viewed e) side k || from_answerer connections (viewed e) side k)
     unfolding live_match vacant
     live-by-match h = rw (lt-ltb _ _ (leb-false _ _ h))
+
+-- the entry at an offset, its side read from its bytes
+module _ (v : Version) (t : List ℕ) (at side : ℕ) (k : Flow) where
+  side-at : (entry_at v t at).connection.side ≡ get_or t (at + 1) 0
+  unfolding entry_at connection_at
+  side-at = refl
+
+  pub opener-by-side-at :
+      same_flow k (entry_at v t at).key ≡ true → (side =ᵇ get_or t (at + 1) 0) ≡ from_opener connections (viewed (entry_at v t at)) side k
+  opener-by-side-at h = sym (opener-by-side (entry_at v t at) side k h ∙ ap (λ (s : ℕ). side =ᵇ s) side-at)
+
+  pub answerer-by-side-at :
+      (other : ℕ) → other ≡ 1 - get_or t (at + 1) 0 → same_flow (reversed k) (entry_at v t at).key ≡ true →
+      (side =ᵇ other) ≡ from_answerer connections (viewed (entry_at v t at)) side k
+  answerer-by-side-at other o h =
+      ap (λ (s : ℕ). side =ᵇ s) (o ∙ ap (λ (s : ℕ). 1 - s) (sym side-at)) ∙ sym (answerer-by-side (entry_at v t at) side k h)
+
+  -- the key that was asked for is the flow reversed
+  pub back-test : (back : Flow) (r : Bool) → back ≡ reversed k → r ≡ same_flow back (entry_at v t at).key → same_flow (reversed k) (entry_at v t at).key ≡ r
+  back-test back r turned e = sym (e ∙ ap (λ (b : Flow). same_flow b (entry_at v t at).key) turned)
 
 -- a test of the entry at a place, by the offset where the entry begins
 pub tested_at :

@@ -114,6 +114,7 @@ const ZEROS: usize = 8;
 const LAST_WORD: usize = 60;
 
 // The header clock.
+#[tactic(auto, using(choice::proofs::Choice::when_cond), unfolding(crate::specs::Table::header_clock))]
 pub fn clock(table: &[u8]) -> u64
     requires { header_size ≤ length table.now }
     ensures { result ≡ header_clock table.now }
@@ -141,6 +142,7 @@ fn other_side(side: u8) -> u8
 }
 
 // The entry at an offset has these addresses and ports, the opener's first.
+#[tactic(auto, using(choice::proofs::Choice::when_cond), unfolding(address::specs::Flows::same_flow, entry::specs::Layout::entry_at))]
 fn key_is(version: Version, table: &[u8], at: usize, flow: Flow) -> bool
     requires { at + entry_size version ≤ length table.now }
     ensures { result ≡ same_flow flow (entry_at version table.now at).key }
@@ -281,6 +283,7 @@ fn sound_word(w: u32) -> bool
 }
 
 // Win from 1 to 65,535, and edge at most 65,535 ahead of end.
+#[tactic(auto, using(choice::proofs::Choice::when_cond), unfolding(connection::specs::Sound::sound_end))]
 fn sound_end(end: End) -> bool
     ensures { result ≡ sound_end end }
 {
@@ -315,6 +318,7 @@ fn sound_numbers(
 }
 
 // In stage 1 the opener's edge equals its end and the answerer has 0, 0, 1.
+#[tactic(auto, using(choice::proofs::Choice::when_cond), unfolding(connection::specs::Sound::sound_unanswered))]
 fn sound_unanswered(opener: End, answerer: End) -> bool
     ensures { result ≡ sound_unanswered 1 opener answerer }
 {
