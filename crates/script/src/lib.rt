@@ -1,7 +1,7 @@
 // Reads a script by lines and collects the output, for the programs that run one.
 #![tactic(auto)]
 
-ghost use Rattle.std.specs.Prelude.{◌≡◌, ◌+◌, ◌*◌, ◌%◌, ◌^◌, ◌<◌, ◌≤◌, length, drop, slice_index, [], ◌∷◌, IfOk, OnErr};
+ghost use Rattle.std.specs.Prelude.{◌≡◌, ◌+◌, ◌*◌, ◌%◌, ◌^◌, ◌<◌, ◌≤◌, length, drop, slice_index, [], ◌∷◌, IsOk, IfOk, OnErr};
 ghost use Rattle.std.specs.Io.KnownBytes.{Appends};
 ghost use Rattle.report.specs.Text.{decimal_text};
 ghost use Rattle.script.specs.Output.{with_byte, with_bytes, all_put};
@@ -177,6 +177,7 @@ pub fn decimal_field(line: &[u8], at: usize) -> u64
 pub fn put<W: Write>(writer: &mut W, out: &mut Output, used: usize, b: u8) -> io::Result<usize>
     ensures result_after { IfOk result (λ n. (out.new, n) ≡ with_byte (out.old, used) b) }
     ensures written { IfOk result (λ n. Appends (all_put (W.contents writer.old) (out.old, used)) (all_put (W.contents writer.new) (out.new, n)) (b ∷ [])) }
+    ensures fits { used < 65536 → IsOk result }
     ensures upper_bound { IfOk result (λ n. n ≤ 65536) }
     ensures unchanged { OnErr result (out.new ≡ out.old) }
 {
@@ -198,6 +199,7 @@ pub fn put_bytes<W: Write>(
     requires { used ≤ 65536 }
     ensures result_after { IfOk result (λ n. (out.new, n) ≡ with_bytes (out.old, used) bytes.now) }
     ensures written { IfOk result (λ n. Appends (all_put (W.contents writer.old) (out.old, used)) (all_put (W.contents writer.new) (out.new, n)) bytes.now) }
+    ensures fits { used + length bytes.now ≤ 65536 → IsOk result }
     ensures upper_bound { IfOk result (λ n. n ≤ 65536) }
     ensures length_kept { OnErr result (length out.new ≡ length out.old) }
 {
@@ -219,6 +221,7 @@ pub fn put_decimal<W: Write>(
     requires { used ≤ 65536 }
     ensures result_after { IfOk result (λ n. (out.new, n) ≡ with_bytes (out.old, used) (decimal_text v)) }
     ensures written { IfOk result (λ n. Appends (all_put (W.contents writer.old) (out.old, used)) (all_put (W.contents writer.new) (out.new, n)) (decimal_text v)) }
+    ensures fits { used + length (decimal_text v) ≤ 65536 → IsOk result }
     ensures upper_bound { IfOk result (λ n. n ≤ 65536) }
     ensures length_kept { OnErr result (length out.new ≡ length out.old) }
 {
@@ -238,6 +241,7 @@ pub fn put_fields<W: Write>(
     requires { used ≤ 65536 }
     ensures result_after { IfOk result (λ n. (out.new, n) ≡ with_bytes (out.old, used) (fields_text first rest.now)) }
     ensures written { IfOk result (λ n. Appends (all_put (W.contents writer.old) (out.old, used)) (all_put (W.contents writer.new) (out.new, n)) (fields_text first rest.now)) }
+    ensures fits { used + length (fields_text first rest.now) ≤ 65536 → IsOk result }
     ensures upper_bound { IfOk result (λ n. n ≤ 65536) }
     ensures length_kept { OnErr result (length out.new ≡ length out.old) }
 {

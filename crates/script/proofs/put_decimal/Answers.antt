@@ -30,3 +30,9 @@ returns-clause-written g c =
     let v = c.args.v in
     let text = text_in-front _ _ (decimal_text v) _ (length-decimal_text≤20 v) c.put_decimal-n.ensures in
     rw text at c.put_bytes.ensures.written
+
+pub returns-clause-fits : goal.returns-clause-fits
+returns-clause-fits g c =
+    let v = c.args.v in
+    let text = text_in-front _ _ (decimal_text v) _ (length-decimal_text≤20 v) c.put_decimal-n.ensures in
+    rw text at c.put_bytes.ensures.fits
