@@ -8,13 +8,14 @@
 // pass, or else the verdict's number alone.
 #![tactic(auto)]
 
-ghost use Rattle.std.specs.Prelude.{◌≤◌, ◌<◌};
+ghost use Rattle.std.specs.Prelude.{◌≤◌, ◌<◌, IfOk};
 
 use connection::{Connection, End, Verdict};
-use libc::STDOUT_FILENO;
 use script::{Chunk, Input, Line, Output};
 use segment::Segment;
 use serial::{OctetCount, SeqNum};
+use std::io;
+use std::io::{Read, Write};
 
 // The held connection, and how much of the output is in use.
 #[derive(Clone, Copy)]
@@ -98,9 +99,14 @@ fn segment(line: &[u8]) -> Segment {
     }
 }
 
-fn put_connection(out: &mut Output, used: usize, connection: Connection) -> usize
+fn put_connection<W: Write>(
+    writer: &mut W,
+    out: &mut Output,
+    used: usize,
+    connection: Connection,
+) -> io::Result<usize>
     requires { used ≤ 65536 }
-    ensures { result ≤ 65536 }
+    ensures { IfOk result (λ n. n ≤ 65536) }
 {
     let opener = connection.ends[0];
     let answerer = connection.ends[1];
@@ -115,81 +121,104 @@ fn put_connection(out: &mut Output, used: usize, connection: Connection) -> usiz
         answerer.edge.0 as u64,
         answerer.win.0 as u64,
     ];
-    script::put_fields(out, used, connection.stage as u64, &rest)
+    script::put_fields(writer, out, used, connection.stage as u64, &rest)
 }
 
 // Ends a line of the output.
-fn ended(out: &mut Output, used: usize, held: Connection) -> Bench
-    ensures { result.used ≤ 65536 }
+fn ended<W: Write>(
+    writer: &mut W,
+    out: &mut Output,
+    used: usize,
+    held: Connection,
+) -> io::Result<Bench>
+    ensures { IfOk result (λ bench. bench.used ≤ 65536) }
 {
-    Bench {
+    let used = script::put(writer, out, used, b'\n')?;
+    Ok(Bench {
         held: held,
-        used: script::put(out, used, b'\n'),
-    }
+        used: used,
+    })
 }
 
 // The command o.
-fn open(line: &[u8], out: &mut Output, used: usize) -> Bench
+fn open<W: Write>(line: &[u8], writer: &mut W, out: &mut Output, used: usize) -> io::Result<Bench>
     requires { used ≤ 65536 }
-    ensures { result.used ≤ 65536 }
+    ensures { IfOk result (λ bench. bench.used ≤ 65536) }
 {
     let connection = opened(line);
-    let end = put_connection(out, used, connection);
-    ended(out, end, connection)
+    let end = put_connection(writer, out, used, connection)?;
+    ended(writer, out, end, connection)
 }
 
 // Holds what a pass leaves.
-fn pass(out: &mut Output, used: usize, after: Connection) -> Bench
+fn pass<W: Write>(
+    writer: &mut W,
+    out: &mut Output,
+    used: usize,
+    after: Connection,
+) -> io::Result<Bench>
     requires { used ≤ 65536 }
-    ensures { result.used ≤ 65536 }
+    ensures { IfOk result (λ bench. bench.used ≤ 65536) }
 {
-    let space = script::put_bytes(out, used, b"0 ");
-    let end = put_connection(out, space, after);
-    ended(out, end, after)
+    let space = script::put_bytes(writer, out, used, b"0 ")?;
+    let end = put_connection(writer, out, space, after)?;
+    ended(writer, out, end, after)
 }
 
 // The command g.
-fn judge(line: &[u8], out: &mut Output, used: usize, held: Connection) -> Bench
+fn judge<W: Write>(
+    line: &[u8],
+    writer: &mut W,
+    out: &mut Output,
+    used: usize,
+    held: Connection,
+) -> io::Result<Bench>
     requires { used ≤ 65536 }
-    ensures { result.used ≤ 65536 }
+    ensures { IfOk result (λ bench. bench.used ≤ 65536) }
 {
     let decided = held.decide(sender(line), segment(line), clock(line, 7));
     let verdict = decided.verdict;
     let after = decided.connection;
     match verdict {
-        Verdict::Pass => pass(out, used, after),
+        Verdict::Pass => pass(writer, out, used, after),
         _ => {
-            let end = script::put_decimal(out, used, verdict.number() as u64);
-            ended(out, end, after)
+            let end = script::put_decimal(writer, out, used, verdict.number() as u64)?;
+            ended(writer, out, end, after)
         }
     }
 }
 
 // One line of the script.
-fn step(line: &[u8], out: &mut Output, bench: Bench) -> Bench
+fn step<W: Write>(line: &[u8], writer: &mut W, out: &mut Output, bench: Bench) -> io::Result<Bench>
     requires { bench.used ≤ 65536 }
-    ensures { result.used ≤ 65536 }
+    ensures { IfOk result (λ after. after.used ≤ 65536) }
 {
     let held = bench.held;
     let used = bench.used;
     let command = script::character(line, 0);
     match command {
-        b'c' => Bench {
+        b'c' => Ok(Bench {
             held: given(line),
             used: used,
-        },
-        b'o' => open(line, out, used),
-        b'g' => judge(line, out, used, held),
+        }),
+        b'o' => open(line, writer, out, used),
+        b'g' => judge(line, writer, out, used, held),
         _ => {
-            let end = script::put_bytes(out, used, line);
-            ended(out, end, held)
+            let end = script::put_bytes(writer, out, used, line)?;
+            ended(writer, out, end, held)
         }
     }
 }
 
 // Runs the whole script, and answers how much of the output is still to be written.
-fn run(chunk: &mut Chunk, line: &mut Line, out: &mut Output) -> usize
-    ensures { result ≤ 65536 }
+fn run<R: Read, W: Write>(
+    reader: &mut R,
+    writer: &mut W,
+    chunk: &mut Chunk,
+    line: &mut Line,
+    out: &mut Output,
+) -> io::Result<usize>
+    ensures { IfOk result (λ n. n ≤ 65536) }
 {
     // No field is there, so each is 0: a free connection.
     let mut bench = Bench {
@@ -201,30 +230,32 @@ fn run(chunk: &mut Chunk, line: &mut Line, out: &mut Output) -> usize
     let mut turns = u64::MAX;
     while turns > 0 {
         turns -= 1;
-        let end = script::next_line(chunk, line, input);
+        let end = script::next_line(reader, chunk, line, input)?;
         let length = end.length;
         if end.is_last && length == 0 {
-            return bench.used;
+            return Ok(bench.used);
         }
         input = end.input;
         let text = &line[..];
-        bench = step(&text[0..length], out, bench);
+        bench = step(&text[0..length], writer, out, bench)?;
     }
-    bench.used
+    Ok(bench.used)
 }
 
 // Writes what is left of the output.
-fn finish(out: &Output, used: usize)
+fn finish<W: Write>(writer: &mut W, out: &Output, used: usize) -> io::Result<()>
     requires { used ≤ 65536 }
 {
     let all = &out[..];
-    io::write_all(STDOUT_FILENO, &all[0..used]);
+    writer.write_all(&all[0..used])
 }
 
-fn main() {
+fn main(rt: HostRuntime) -> io::Result<()> {
+    let mut reader = rt.stdin();
+    let mut writer = rt.stdout();
     let mut chunk = [0u8; 65536];
     let mut line = [0u8; 4096];
     let mut out = [0u8; 65536];
-    let used = run(&mut chunk, &mut line, &mut out);
-    finish(&out, used);
+    let used = run(&mut reader, &mut writer, &mut chunk, &mut line, &mut out)?;
+    finish(&mut writer, &out, used)
 }

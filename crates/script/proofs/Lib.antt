@@ -1,3 +1,4 @@
 pub mod Output
 pub mod Fields
 pub mod RoundTrip
+pub mod Written

@@ -1,5 +1,5 @@
 -- Laws of collected output.
-use Rattle.std.proofs.Common.{◌≡◌, ℕ, suc, ◌+◌, ◌<◌, ◌≤◌, List, [], ◌∷◌, ◌++◌, length, get_or, drop, set, sym, refl, ◌∙◌, add-zero, add-one, arith, length-set, drop_of_length-le, drop-cons}
+use Rattle.std.proofs.Common.{◌≡◌, ℕ, suc, ◌+◌, ◌<◌, ◌≤◌, List, [], ◌∷◌, ◌++◌, length, get_or, drop, set, sym, refl, ap, ◌∙◌, add-zero, add-one, arith, length-set, length-append, drop_of_length-le, drop-cons}
 use Rattle.choice.proofs.Choice.{when-<, when-<-not}
 use Rattle.octets.specs.Overwrite.{overwrite}
 use Rattle.octets.proofs.Overwrite.{overwrite-nothing, set≡overwrite, overwrite-join}
@@ -33,6 +33,14 @@ with_bytes-room l used (b ∷ bytes) size room =
     rw (with_byte-room l used b (omega arith))
     (with_bytes-room (set l used b) (used + 1) bytes (simp length-set size) (omega arith) ∙ rw (whole, count))
 
+-- and so many are in use then
+pub with_byte-count : (l m : List ℕ) (used n b : ℕ) → used < 65536 → (m, n) ≡ with_byte (l, used) b → n ≡ used + 1
+with_byte-count l m used n b room e = ap (λ (held : List ℕ × ℕ). held.1) (e ∙ with_byte-room l used b room)
+
+pub with_bytes-count :
+    (l m : List ℕ) (used n : ℕ) (bytes : List ℕ) → length l ≡ 65536 → used + length bytes ≤ 65536 → (m, n) ≡ with_bytes (l, used) bytes → n ≡ used + length bytes
+with_bytes-count l m used n bytes size room e = ap (λ (held : List ℕ × ℕ). held.1) (e ∙ with_bytes-room l used bytes size room)
+
 -- what is left of some bytes, before and after the next one is added
 pub with_bytes-next :
     (held after : List ℕ × ℕ) (bytes : List ℕ) (i : ℕ) → i < length bytes → after ≡ with_byte held (get_or bytes i 0) →
@@ -56,3 +64,9 @@ with_bytes-spaced held space after rest i inside e f =
 pub with_bytes-spaced-all : (held : List ℕ × ℕ) (rest : List ℕ) (i : ℕ) → length rest ≤ i → with_bytes held (spaced (drop i rest)) ≡ held
 unfolding with_bytes spaced
 with_bytes-spaced-all held rest i past = rw (drop_of_length-le rest past)
+
+pub length-spaced :
+    (rest : List ℕ) (i : ℕ) → i < length rest →
+    length (spaced (drop i rest)) ≡ 1 + length (decimal_text (get_or rest i 0)) + length (spaced (drop (i + 1) rest))
+unfolding spaced
+length-spaced rest i inside = rw (drop-cons rest i 0 inside, add-one) (omega (arith, length-append {A = ℕ}))

@@ -1,17 +1,19 @@
 // Reads a script by lines and collects the output, for the programs that run one.
 #![tactic(auto)]
 
-ghost use Rattle.std.specs.Prelude.{◌≡◌, ◌+◌, ◌*◌, ◌%◌, ◌^◌, ◌<◌, ◌≤◌, length, drop, slice_index};
+ghost use Rattle.std.specs.Prelude.{◌≡◌, ◌+◌, ◌*◌, ◌%◌, ◌^◌, ◌<◌, ◌≤◌, length, drop, slice_index, [], ◌∷◌, IsOk, IfOk, OnErr};
+ghost use Rattle.std.specs.Io.KnownBytes.{Appends};
 ghost use Rattle.report.specs.Text.{decimal_text};
-ghost use Rattle.script.specs.Output.{with_byte, with_bytes};
+ghost use Rattle.script.specs.Output.{with_byte, with_bytes, all_put};
 ghost use Rattle.script.specs.Fields.{decimal_value, decimal_field, fields_text};
 
-use libc::{STDIN_FILENO, STDOUT_FILENO};
 // The programs use it too.
 pub use octets::least;
+use std::io;
+use std::io::{Read, Write};
 use std::num::wrapping_add_u64;
 
-// Standard input is read in pieces of this size.
+// The input is read in pieces of at most this size.
 pub type Chunk = [u8; 65536];
 
 // What is longer is cut.
@@ -19,7 +21,7 @@ pub type Line = [u8; 4096];
 
 pub type Output = [u8; 65536];
 
-// Standard input: the chunk holds so many bytes, and those before at are taken.
+// The input: the chunk holds so many bytes, and those before at are taken.
 #[derive(Clone, Copy)]
 pub struct Input {
     at: usize,
@@ -49,32 +51,37 @@ impl Input {
     }
 }
 
-// The next byte of standard input.
-fn next_byte(chunk: &mut Chunk, input: Input) -> Arrived
+// The next byte of the input.
+fn next_byte<R: Read>(reader: &mut R, chunk: &mut Chunk, input: Input) -> io::Result<Arrived>
     ensures { length chunk.new ≡ length chunk.old }
 {
     let at = input.at;
     if at < least(input.have, 65536) {
-        return Arrived::Byte(
+        return Ok(Arrived::Byte(
             chunk[at],
             Input {
                 at: at + 1,
                 have: input.have,
             },
-        );
+        ));
     }
-    let n = io::read_full(STDIN_FILENO, chunk);
+    let n = reader.read(chunk)?;
     if n == 0 {
-        return Arrived::End;
+        return Ok(Arrived::End);
     }
-    Arrived::Byte(chunk[0], Input { at: 1, have: n })
+    Ok(Arrived::Byte(chunk[0], Input { at: 1, have: n }))
 }
 
 // Reads to the next newline or to the end of the input; what the line cannot hold is dropped. Nothing can be promised of what standard
 // input holds: the answer, the chunk and the line's first `length` bytes are open. Promised: `length` is at most 4,096, the line is
-// unchanged past it, both buffers keep their lengths.
-pub fn next_line(chunk: &mut Chunk, line: &mut Line, start: Input) -> LineEnd
-    ensures length_bound { (result.length ≤ 4096) × (drop result.length line.new ≡ drop result.length line.old) }
+// unchanged past it, both buffers keep their lengths, also where a read fails.
+pub fn next_line<R: Read>(
+    reader: &mut R,
+    chunk: &mut Chunk,
+    line: &mut Line,
+    start: Input,
+) -> io::Result<LineEnd>
+    ensures length_bound { IfOk result (λ end. (end.length ≤ 4096) × (drop end.length line.new ≡ drop end.length line.old)) }
     ensures line_len_unchanged { (length line.new ≡ length line.old) × (length chunk.new ≡ length chunk.old) }
 {
     let mut input = start;
@@ -83,23 +90,23 @@ pub fn next_line(chunk: &mut Chunk, line: &mut Line, start: Input) -> LineEnd
     let mut turns = u64::MAX;
     while turns > 0 {
         turns -= 1;
-        let got = next_byte(chunk, input);
+        let got = next_byte(reader, chunk, input)?;
         match got {
             Arrived::End => {
-                return LineEnd {
+                return Ok(LineEnd {
                     length: length,
                     is_last: true,
                     input: input,
-                };
+                });
             }
             Arrived::Byte(b, after) => {
                 input = after;
                 if b == b'\n' {
-                    return LineEnd {
+                    return Ok(LineEnd {
                         length: length,
                         is_last: false,
                         input: input,
-                    };
+                    });
                 }
                 if length < 4096 {
                     line[length] = b;
@@ -108,11 +115,11 @@ pub fn next_line(chunk: &mut Chunk, line: &mut Line, start: Input) -> LineEnd
             }
         }
     }
-    LineEnd {
+    Ok(LineEnd {
         length: length,
         is_last: true,
         input: input,
-    }
+    })
 }
 
 // The character at a place of a line, 0 past its end.
@@ -125,6 +132,7 @@ pub fn character(line: &[u8], at: usize) -> u8
     0
 }
 
+#[tactic(auto, using(choice::proofs::Choice::when_cond), unfolding(crate::specs::Fields::decimal_value))]
 fn decimal_value(c: u8) -> u64
     ensures { (result ≡ decimal_value c) × (result < 10) }
 {
@@ -165,55 +173,84 @@ pub fn decimal_field(line: &[u8], at: usize) -> u64
 }
 
 // Adds a byte to the output, which is written where it is full, and gives how much of it is in use.
-pub fn put(out: &mut Output, used: usize, b: u8) -> usize
-    ensures result_after { (out.new, result) ≡ with_byte (out.old, used) b }
-    ensures upper_bound { result ≤ 65536 }
+#[tactic(auto, using(choice::proofs::Choice::when_cond), unfolding(crate::specs::Output::with_byte))]
+pub fn put<W: Write>(writer: &mut W, out: &mut Output, used: usize, b: u8) -> io::Result<usize>
+    ensures result_after { IfOk result (λ n. (out.new, n) ≡ with_byte (out.old, used) b) }
+    ensures written { IfOk result (λ n. Appends (all_put (W.contents writer.old) (out.old, used)) (all_put (W.contents writer.new) (out.new, n)) (b ∷ [])) }
+    ensures fits { used < 65536 → IsOk result }
+    ensures upper_bound { IfOk result (λ n. n ≤ 65536) }
+    ensures unchanged { OnErr result (out.new ≡ out.old) }
 {
     if used < 65536 {
         out[used] = b;
-        return used + 1;
+        return Ok(used + 1);
     }
-    io::write_all(STDOUT_FILENO, out);
+    writer.write_all(&out[..])?;
     out[0] = b;
-    1
+    Ok(1)
 }
 
-pub fn put_bytes(out: &mut Output, used: usize, bytes: &[u8]) -> usize
+pub fn put_bytes<W: Write>(
+    writer: &mut W,
+    out: &mut Output,
+    used: usize,
+    bytes: &[u8],
+) -> io::Result<usize>
     requires { used ≤ 65536 }
-    ensures result_after { (out.new, result) ≡ with_bytes (out.old, used) bytes.now }
-    ensures upper_bound { result ≤ 65536 }
+    ensures result_after { IfOk result (λ n. (out.new, n) ≡ with_bytes (out.old, used) bytes.now) }
+    ensures written { IfOk result (λ n. Appends (all_put (W.contents writer.old) (out.old, used)) (all_put (W.contents writer.new) (out.new, n)) bytes.now) }
+    ensures fits { used + length bytes.now ≤ 65536 → IsOk result }
+    ensures upper_bound { IfOk result (λ n. n ≤ 65536) }
+    ensures length_kept { OnErr result (length out.new ≡ length out.old) }
 {
     let mut n = used;
     let mut i = 0;
     while i < bytes.len() {
-        n = put(out, n, bytes[i]);
+        n = put(writer, out, n, bytes[i])?;
         i += 1;
     }
-    n
+    Ok(n)
 }
 
-pub fn put_decimal(out: &mut Output, used: usize, v: u64) -> usize
+pub fn put_decimal<W: Write>(
+    writer: &mut W,
+    out: &mut Output,
+    used: usize,
+    v: u64,
+) -> io::Result<usize>
     requires { used ≤ 65536 }
-    ensures result_after { (out.new, result) ≡ with_bytes (out.old, used) (decimal_text v) }
-    ensures upper_bound { result ≤ 65536 }
+    ensures result_after { IfOk result (λ n. (out.new, n) ≡ with_bytes (out.old, used) (decimal_text v)) }
+    ensures written { IfOk result (λ n. Appends (all_put (W.contents writer.old) (out.old, used)) (all_put (W.contents writer.new) (out.new, n)) (decimal_text v)) }
+    ensures fits { used + length (decimal_text v) ≤ 65536 → IsOk result }
+    ensures upper_bound { IfOk result (λ n. n ≤ 65536) }
+    ensures length_kept { OnErr result (length out.new ≡ length out.old) }
 {
     let mut digits = [0u8; 20];
     let n = report::put_decimal(&mut digits, 0, v);
-    put_bytes(out, used, &digits[0..n])
+    put_bytes(writer, out, used, &digits[0..n])
 }
 
 // Adds numbers with a space between each two.
-pub fn put_fields(out: &mut Output, used: usize, first: u64, rest: &[u64]) -> usize
+pub fn put_fields<W: Write>(
+    writer: &mut W,
+    out: &mut Output,
+    used: usize,
+    first: u64,
+    rest: &[u64],
+) -> io::Result<usize>
     requires { used ≤ 65536 }
-    ensures result_after { (out.new, result) ≡ with_bytes (out.old, used) (fields_text first rest.now) }
-    ensures upper_bound { result ≤ 65536 }
+    ensures result_after { IfOk result (λ n. (out.new, n) ≡ with_bytes (out.old, used) (fields_text first rest.now)) }
+    ensures written { IfOk result (λ n. Appends (all_put (W.contents writer.old) (out.old, used)) (all_put (W.contents writer.new) (out.new, n)) (fields_text first rest.now)) }
+    ensures fits { used + length (fields_text first rest.now) ≤ 65536 → IsOk result }
+    ensures upper_bound { IfOk result (λ n. n ≤ 65536) }
+    ensures length_kept { OnErr result (length out.new ≡ length out.old) }
 {
-    let mut n = put_decimal(out, used, first);
+    let mut n = put_decimal(writer, out, used, first)?;
     let mut i = 0;
     while i < rest.len() {
-        n = put(out, n, b' ');
-        n = put_decimal(out, n, rest[i]);
+        n = put(writer, out, n, b' ')?;
+        n = put_decimal(writer, out, n, rest[i])?;
         i += 1;
     }
-    n
+    Ok(n)
 }

@@ -16,13 +16,14 @@
 // where HEX and TEXT are all NNNNN bytes, each '.' before, or '-' where there are none.
 #![tactic(auto)]
 
-ghost use Rattle.std.specs.Prelude.{◌≤◌, ◌<◌};
+ghost use Rattle.std.specs.Prelude.{◌≤◌, ◌<◌, IfOk};
 
 use address::Flow;
-use libc::STDOUT_FILENO;
 use packet::PacketRead;
 use script::{Chunk, Input, Line, Output};
 use segment::Segment;
+use std::io;
+use std::io::{Read, Write};
 
 // More than the longest packet.
 type Buffer = [u8; 66000];
@@ -107,23 +108,34 @@ fn hex_digit(v: u8) -> u8 {
 }
 
 // Adds each byte as two hex digits.
-fn put_hex(out: &mut Output, used: usize, bytes: &[u8]) -> usize
+fn put_hex<W: Write>(
+    writer: &mut W,
+    out: &mut Output,
+    used: usize,
+    bytes: &[u8],
+) -> io::Result<usize>
     requires { used ≤ 65536 }
-    ensures { result ≤ 65536 }
+    ensures { IfOk result (λ n. n ≤ 65536) }
 {
     let mut n = used;
     let mut i = 0;
     while i < bytes.len() {
-        n = script::put(out, n, hex_digit(bytes[i] / 16));
-        n = script::put(out, n, hex_digit(bytes[i]));
+        n = script::put(writer, out, n, hex_digit(bytes[i] / 16))?;
+        n = script::put(writer, out, n, hex_digit(bytes[i]))?;
         i += 1;
     }
-    n
+    Ok(n)
 }
 
-fn put_segment(out: &mut Output, used: usize, flow: Flow, segment: Segment) -> usize
+fn put_segment<W: Write>(
+    writer: &mut W,
+    out: &mut Output,
+    used: usize,
+    flow: Flow,
+    segment: Segment,
+) -> io::Result<usize>
     requires { used ≤ 65536 }
-    ensures { result ≤ 65536 }
+    ensures { IfOk result (λ n. n ≤ 65536) }
 {
     let from = flow.from;
     let to = flow.to;
@@ -138,28 +150,39 @@ fn put_segment(out: &mut Output, used: usize, flow: Flow, segment: Segment) -> u
         segment.flags as u64,
         segment.octets.0 as u64,
     ];
-    script::put_fields(out, used, 0, &fields)
+    script::put_fields(writer, out, used, 0, &fields)
 }
 
 // The command p.
-fn read_packet(bytes: &[u8], out: &mut Output, used: usize) -> usize
+fn read_packet<W: Write>(
+    bytes: &[u8],
+    writer: &mut W,
+    out: &mut Output,
+    used: usize,
+) -> io::Result<usize>
     requires { used ≤ 65536 }
-    ensures { result ≤ 65536 }
+    ensures { IfOk result (λ n. n ≤ 65536) }
 {
     let read = packet::read_ipv4(bytes);
     match read {
         PacketRead::Refused(cause, offset) => {
             let fields = [offset as u64];
-            script::put_fields(out, used, cause.number() as u64, &fields)
+            script::put_fields(writer, out, used, cause.number() as u64, &fields)
         }
-        PacketRead::Tcp(flow, segment) => put_segment(out, used, flow, segment),
+        PacketRead::Tcp(flow, segment) => put_segment(writer, out, used, flow, segment),
     }
 }
 
 // Reads bytes as a trace line into packet, and prints the answer and all of packet.
-fn show_read(bytes: &[u8], packet: &mut [u8], out: &mut Output, used: usize) -> usize
+fn show_read<W: Write>(
+    bytes: &[u8],
+    packet: &mut [u8],
+    writer: &mut W,
+    out: &mut Output,
+    used: usize,
+) -> io::Result<usize>
     requires { used ≤ 65536 }
-    ensures { result ≤ 65536 }
+    ensures { IfOk result (λ n. n ≤ 65536) }
 {
     let read = trace::read_line(bytes, packet);
     let answer = read.answer();
@@ -169,118 +192,157 @@ fn show_read(bytes: &[u8], packet: &mut [u8], out: &mut Output, used: usize) -> 
         answer.length as u64,
         answer.offset as u64,
     ];
-    let end = script::put_fields(out, used, answer.number as u64, &fields);
-    let space = script::put(out, end, b' ');
+    let end = script::put_fields(writer, out, used, answer.number as u64, &fields)?;
+    let space = script::put(writer, out, end, b' ')?;
     if packet.len() == 0 {
-        return script::put(out, space, b'-');
+        return script::put(writer, out, space, b'-');
     }
-    put_hex(out, space, packet)
+    put_hex(writer, out, space, packet)
 }
 
 // The command r.
-fn read_line(line: &[u8], bytes: &[u8], out: &mut Output, used: usize) -> usize
+fn read_line<W: Write>(
+    line: &[u8],
+    bytes: &[u8],
+    writer: &mut W,
+    out: &mut Output,
+    used: usize,
+) -> io::Result<usize>
     requires { used ≤ 65536 }
-    ensures { result ≤ 65536 }
+    ensures { IfOk result (λ n. n ≤ 65536) }
 {
     let mut packet = [b'.'; 2100];
     let n = script::least(decimal_number(line, 1), 2100);
-    show_read(bytes, &mut packet[0..n], out, used)
+    show_read(bytes, &mut packet[0..n], writer, out, used)
 }
 
 // Writes bytes as a trace line into text, and prints the answer and all of text.
-fn show_written(line: &[u8], bytes: &[u8], text: &mut [u8], out: &mut Output, used: usize) -> usize
+fn show_written<W: Write>(
+    line: &[u8],
+    bytes: &[u8],
+    text: &mut [u8],
+    writer: &mut W,
+    out: &mut Output,
+    used: usize,
+) -> io::Result<usize>
     requires { used ≤ 65536 }
-    ensures { result ≤ 65536 }
+    ensures { IfOk result (λ n. n ≤ 65536) }
 {
     let written = trace::write_line(hex_pair(line, 2) as u32, hex_number(line, 5), bytes, text);
     let answer = written.answer();
     let fields = [answer.length as u64];
-    let end = script::put_fields(out, used, answer.number as u64, &fields);
-    let space = script::put(out, end, b' ');
+    let end = script::put_fields(writer, out, used, answer.number as u64, &fields)?;
+    let space = script::put(writer, out, end, b' ')?;
     if text.len() == 0 {
-        return script::put(out, space, b'-');
+        return script::put(writer, out, space, b'-');
     }
-    script::put_bytes(out, space, text)
+    script::put_bytes(writer, out, space, text)
 }
 
 // The command w.
-fn write_line(line: &[u8], bytes: &[u8], out: &mut Output, used: usize) -> usize
+fn write_line<W: Write>(
+    line: &[u8],
+    bytes: &[u8],
+    writer: &mut W,
+    out: &mut Output,
+    used: usize,
+) -> io::Result<usize>
     requires { used ≤ 65536 }
-    ensures { result ≤ 65536 }
+    ensures { IfOk result (λ n. n ≤ 65536) }
 {
     let mut text = [b'.'; 4200];
     let n = script::least(decimal_number(line, 3), 4200);
-    show_written(line, bytes, &mut text[0..n], out, used)
+    show_written(line, bytes, &mut text[0..n], writer, out, used)
 }
 
 // The command s; what is past 65,535 bytes is left out.
-fn sum(bytes: &[u8], out: &mut Output, used: usize) -> usize
+fn sum<W: Write>(bytes: &[u8], writer: &mut W, out: &mut Output, used: usize) -> io::Result<usize>
     requires { used ≤ 65536 }
-    ensures { result ≤ 65536 }
+    ensures { IfOk result (λ n. n ≤ 65536) }
 {
     let n = script::least(bytes.len(), 65535);
     let sum = checksum::ones_sum(&bytes[0..n]);
     let octets = [(sum / 256) as u8, (sum % 256) as u8];
-    put_hex(out, used, &octets)
+    put_hex(writer, out, used, &octets)
 }
 
 // The command p, r, w or s.
-fn answer(line: &[u8], bytes: &[u8], out: &mut Output, used: usize) -> usize
+fn answer<W: Write>(
+    line: &[u8],
+    bytes: &[u8],
+    writer: &mut W,
+    out: &mut Output,
+    used: usize,
+) -> io::Result<usize>
     requires { used ≤ 65536 }
-    ensures { result ≤ 65536 }
+    ensures { IfOk result (λ n. n ≤ 65536) }
 {
     let command = script::character(line, 0);
     match command {
-        b'p' => read_packet(bytes, out, used),
-        b'r' => read_line(line, bytes, out, used),
-        b's' => sum(bytes, out, used),
-        _ => write_line(line, bytes, out, used),
+        b'p' => read_packet(bytes, writer, out, used),
+        b'r' => read_line(line, bytes, writer, out, used),
+        b's' => sum(bytes, writer, out, used),
+        _ => write_line(line, bytes, writer, out, used),
     }
 }
 
 // Ends a line of the output.
-fn ended(out: &mut Output, used: usize, held: usize) -> Used
+fn ended<W: Write>(writer: &mut W, out: &mut Output, used: usize, held: usize) -> io::Result<Used>
     requires { held ≤ 66000 }
-    ensures { (result.buffer ≤ 66000) × (result.output ≤ 65536) }
+    ensures { IfOk result (λ after. (after.buffer ≤ 66000) × (after.output ≤ 65536)) }
 {
-    Used {
+    let output = script::put(writer, out, used, b'\n')?;
+    Ok(Used {
         buffer: held,
-        output: script::put(out, used, b'\n'),
-    }
+        output: output,
+    })
 }
 
 // One line of the script.
-fn step(line: &[u8], buffer: &mut Buffer, out: &mut Output, used: Used) -> Used
+fn step<W: Write>(
+    line: &[u8],
+    buffer: &mut Buffer,
+    writer: &mut W,
+    out: &mut Output,
+    used: Used,
+) -> io::Result<Used>
     requires { (used.buffer ≤ 66000) × (used.output ≤ 65536) }
-    ensures { (result.buffer ≤ 66000) × (result.output ≤ 65536) }
+    ensures { IfOk result (λ after. (after.buffer ≤ 66000) × (after.output ≤ 65536)) }
 {
     let held = used.buffer;
     let at = used.output;
     let command = script::character(line, 0);
     match command {
-        b'b' => Used {
+        b'b' => Ok(Used {
             buffer: append_hex(buffer, held, line),
             output: at,
-        },
-        b'f' => Used {
+        }),
+        b'f' => Ok(Used {
             buffer: append(buffer, held, hex_pair(line, 2), decimal_number(line, 2)),
             output: at,
-        },
+        }),
         b'p' | b'r' | b's' | b'w' => {
             let all = &buffer[..];
-            let end = answer(line, &all[0..held], out, at);
-            ended(out, end, 0)
+            let end = answer(line, &all[0..held], writer, out, at)?;
+            ended(writer, out, end, 0)
         }
         _ => {
-            let end = script::put_bytes(out, at, line);
-            ended(out, end, held)
+            let end = script::put_bytes(writer, out, at, line)?;
+            ended(writer, out, end, held)
         }
     }
 }
 
 // Runs the whole script, and answers how much of the output is still to be written.
-fn run(chunk: &mut Chunk, line: &mut Line, buffer: &mut Buffer, out: &mut Output) -> usize
-    ensures { result ≤ 65536 }
+fn run<R: Read, W: Write>(
+    reader: &mut R,
+    writer: &mut W,
+    chunk: &mut Chunk,
+    line: &mut Line,
+    buffer: &mut Buffer,
+    out: &mut Output,
+) -> io::Result<usize>
+    ensures { IfOk result (λ n. n ≤ 65536) }
 {
     let mut used = Used {
         buffer: 0,
@@ -291,31 +353,40 @@ fn run(chunk: &mut Chunk, line: &mut Line, buffer: &mut Buffer, out: &mut Output
     let mut turns = u64::MAX;
     while turns > 0 {
         turns -= 1;
-        let end = script::next_line(chunk, line, input);
+        let end = script::next_line(reader, chunk, line, input)?;
         let length = end.length;
         if end.is_last && length == 0 {
-            return used.output;
+            return Ok(used.output);
         }
         input = end.input;
         let text = &line[..];
-        used = step(&text[0..length], buffer, out, used);
+        used = step(&text[0..length], buffer, writer, out, used)?;
     }
-    used.output
+    Ok(used.output)
 }
 
 // Writes what is left of the output.
-fn finish(out: &Output, used: usize)
+fn finish<W: Write>(writer: &mut W, out: &Output, used: usize) -> io::Result<()>
     requires { used ≤ 65536 }
 {
     let all = &out[..];
-    io::write_all(STDOUT_FILENO, &all[0..used]);
+    writer.write_all(&all[0..used])
 }
 
-fn main() {
+fn main(rt: HostRuntime) -> io::Result<()> {
+    let mut reader = rt.stdin();
+    let mut writer = rt.stdout();
     let mut chunk = [0u8; 65536];
     let mut line = [0u8; 4096];
     let mut buffer = [0u8; 66000];
     let mut out = [0u8; 65536];
-    let n = run(&mut chunk, &mut line, &mut buffer, &mut out);
-    finish(&out, n);
+    let n = run(
+        &mut reader,
+        &mut writer,
+        &mut chunk,
+        &mut line,
+        &mut buffer,
+        &mut out,
+    )?;
+    finish(&mut writer, &out, n)
 }
