@@ -1,47 +1,53 @@
 -- Each answer of the reader has its clause of `of_read`; a frame's packet is the line's.
-use Rattle.std.proofs.Common.{◌≡◌, ◌-◌, ◌≤◌, length, take, drop, sym, ap, ◌∙◌, arith, rules}
+use Rattle.std.proofs.Common.{◌≡◌, ℕ, ◌-◌, ◌≤◌, List, length, take, drop, sym, ap, ◌∙◌, arith}
 use native.Mathlib.Nat.{sub-zero}
 use Rattle.trace.specs.Line.{line_packet}
-use Rattle.trace.specs.Read.{read_line, read_answer}
+use Rattle.trace.specs.Read.{read_line, read_answer, packet_after_reading}
+use Rattle.trace.specs.declared.LineRead.{LineRead}
+use Rattle.trace.specs.declared.LineRead.TheVariants.{Frame}
 use Rattle.replay.specs.Printed.{room}
 use Rattle.replay.proofs.Answer.{result_of-read, result_of-frame, frame-packet}
 use Rattle.replay.proofs.answer_line.Goals as goal
 
 -- the packet has room for every line's
-packet-room : (c : goal.After-read-line) → length c.args.packet.now ≡ room
-packet-room c = omega arith
-
-read_as : (c : goal.After-read-line) → c.read_line-read.result ≡ read_line c.args.text.now room
-read_as c = c.read_line-read.ensures.0 ∙ ap (read_line c.args.text.now) (packet-room c)
+read_as : (text packet : List ℕ) (read : LineRead) → read ≡ read_line text (length packet) → length packet ≡ room → read ≡ read_line text room
+read_as text packet read e size = e ∙ ap (read_line text) size
 
 -- what the filter is shown is the line's packet
 framed :
-    (c : goal.After-read2) →
-    (c.read2.given.0.1.1.0 ≤ room) × (take (c.read2.given.0.1.1.0 - 0) (drop 0 c.read_line-read.new.1.0) ≡ line_packet c.args.text.now)
-framed c =
-    let read = c in
-    let a = read.args in
-    let n = c.read2.given.0.1.1.0 in
-    rw (sub-zero n, read.read_line-read.ensures.1) (frame-packet a.text.now a.packet.now _ _ n (sym (read_as read) ∙ c.read2.given.1) (packet-room read))
+    (text packet after : List ℕ) (side clock n : ℕ) (read : LineRead) → length packet ≡ room → read ≡ read_line text room →
+    after ≡ packet_after_reading text packet → read ≡ Frame side clock n → (n ≤ room) × (take (n - 0) (drop 0 after) ≡ line_packet text)
+framed text packet after side clock n read size e left frame =
+    rw (sub-zero n, left) (frame-packet text packet side clock n (sym e ∙ frame) size)
 
-pub UNKNOWN-slice-bounds-filter-ipv4-end : goal.UNKNOWN-slice-bounds-filter-ipv4-end
-UNKNOWN-slice-bounds-filter-ipv4-end c = omega (arith, (framed c).0)
+pub slice_bounds-filter_ipv4-end : goal.slice_bounds-filter_ipv4-end
+slice_bounds-filter_ipv4-end c =
+    let a = c.args in
+    let read = read_as a.text.now a.packet.now _ c.read_line-read.ensures.0 (omega arith) in
+    let frame = framed a.text.now a.packet.now _ _ _ _ _ (omega arith) read c.read_line-read.ensures.1 c.in-Frame.is in
+    omega (arith, frame.0)
 
 pub returns-in-TooLong : goal.returns-in-TooLong
 unfolding read_answer
-returns-in-TooLong c = sym (result_of-read _ _ _ (sym c.enum_told.is ∙ read_as c))
+returns-in-TooLong c =
+    let read = read_as c.args.text.now c.args.packet.now _ c.read_line-read.ensures.0 (omega arith) in
+    sym (result_of-read _ _ _ (sym c.in-TooLong.is ∙ read))
 
 pub returns-in-Malformed : goal.returns-in-Malformed
 unfolding read_answer
-returns-in-Malformed c = sym (result_of-read _ _ _ (sym c.read.is ∙ read_as c))
+returns-in-Malformed c =
+    let read = read_as c.args.text.now c.args.packet.now _ c.read_line-read.ensures.0 (omega arith) in
+    sym (result_of-read _ _ _ (sym c.in-Malformed.is ∙ read))
 
 pub returns-in-NoRoom : goal.returns-in-NoRoom
 unfolding read_answer
-returns-in-NoRoom c = sym (result_of-read _ _ _ (sym c.enum-told2.is ∙ read_as c))
+returns-in-NoRoom c =
+    let read = read_as c.args.text.now c.args.packet.now _ c.read_line-read.ensures.0 (omega arith) in
+    sym (result_of-read _ _ _ (sym c.in-NoRoom.is ∙ read))
 
 pub returns-in-Frame : goal.returns-in-Frame
 returns-in-Frame c =
-    let call = c in
-    let read = call in
-    let a = read.args in
-    result_of-frame a.text.now a.table.now _ _ _ _ _ _ _ (sym read.read2.is ∙ read_as read) (framed read).1 call.filter_ipv4-reply.ensures c.shown_place.ensures
+    let a = c.args in
+    let read = read_as a.text.now a.packet.now _ c.read_line-read.ensures.0 (omega arith) in
+    let frame = framed a.text.now a.packet.now _ _ _ _ _ (omega arith) read c.read_line-read.ensures.1 c.in-Frame.is in
+    result_of-frame a.text.now a.table.now _ _ _ _ _ _ _ (sym c.in-Frame.is ∙ read) frame.1 c.filter_ipv4-reply.ensures c.shown_place.ensures

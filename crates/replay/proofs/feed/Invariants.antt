@@ -1,7 +1,6 @@
-use Rattle.std.proofs.Common.{◌≡◌, ℕ, ◌+◌, ◌-◌, ◌*◌, ◌<◌, ◌≤◌, List, length, drop, sym, refl, ap, ◌∙◌, arith}
-use Rattle.replay.specs.Feed.{Memory, memory, with_kept, after_piece}
+use Rattle.std.proofs.Common.{◌≡◌, ◌+◌, ◌-◌, ◌*◌, ◌≤◌, length, drop}
+use Rattle.replay.specs.Feed.{memory, after_piece}
 use Rattle.replay.specs.Written.{result_room}
-use Rattle.replay.proofs.Line.{after_piece-line, after_piece-end, after_piece-newline}
 use Rattle.replay.proofs.feed.Given as goal
 
 abbrev pub invariant-loop-packet : goal.invariant-loop-packet

@@ -1,6 +1,5 @@
 -- The first newline from at on is the first from i on, since no byte before i is one.
-use Rattle.std.proofs.Common.{◌≡◌, ◌+◌, ◌-◌, ◌≤◌, length, drop, sym, ◌∙◌, arith}
-use Rattle.replay.specs.Feed.{before_newline}
+use Rattle.std.proofs.Common.{sym, ◌∙◌, arith}
 use Rattle.replay.proofs.Line.{before_newline-here, before_newline-next, before_newline-end}
 use Rattle.replay.proofs.newline_from.Goals as goal
 

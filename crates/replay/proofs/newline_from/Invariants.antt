@@ -1,6 +1,5 @@
-use Rattle.std.proofs.Common.{◌≡◌, ◌+◌, ◌-◌, ◌≤◌, length, drop, sym, ◌∙◌, arith}
+use Rattle.std.proofs.Common.{◌≡◌, ◌+◌, ◌-◌, ◌≤◌, length, drop}
 use Rattle.replay.specs.Feed.{before_newline}
-use Rattle.replay.proofs.Line.{before_newline-here, before_newline-next, before_newline-end}
 use Rattle.replay.proofs.newline_from.Given as goal
 
 abbrev pub invariant-loop-i : goal.invariant-loop-i

@@ -1,5 +1,5 @@
 -- What is counted and what is written are the parts of `with_answer`.
-use Rattle.std.proofs.Common.{ℕ, ◌+◌, ◌%◌, ◌^◌, ap, ◌∙◌, rules}
+use Rattle.std.proofs.Common.{ℕ, ◌+◌, ◌%◌, ◌^◌, ap, ◌∙◌}
 use Rattle.replay.proofs.put_answer.Goals as goal
 
 pub returns : goal.returns

@@ -1,7 +1,6 @@
 -- The first newline from i on is the first from at on: no byte of a block that is skipped is one.
-use Rattle.std.proofs.Common.{◌≡◌, ℕ, ◌+◌, ◌-◌, ◌<◌, ◌≤◌, length, get_or, drop, sym, refl, ◌∙◌, arith}
+use Rattle.std.proofs.Common.{◌≡◌, ℕ, ◌+◌, ◌<◌, get_or, sym, refl, ◌∙◌, arith}
 use Rattle.replay.specs.Printed.{newline}
-use Rattle.replay.specs.Feed.{before_newline}
 use Rattle.replay.proofs.Line.{before_newline-block}
 use Rattle.replay.proofs.skip_blocks.Goals as goal
 

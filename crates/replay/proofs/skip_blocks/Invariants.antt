@@ -1,7 +1,5 @@
-use Rattle.std.proofs.Common.{◌≡◌, ℕ, ◌+◌, ◌-◌, ◌<◌, ◌≤◌, length, get_or, drop, sym, refl, ◌∙◌, arith}
-use Rattle.replay.specs.Printed.{newline}
+use Rattle.std.proofs.Common.{◌≡◌, ◌+◌, ◌-◌, ◌≤◌, length, drop}
 use Rattle.replay.specs.Feed.{before_newline}
-use Rattle.replay.proofs.Line.{before_newline-block}
 use Rattle.replay.proofs.skip_blocks.Given as goal
 
 abbrev pub invariant-loop-i : goal.invariant-loop-i
