@@ -11,9 +11,8 @@ use Rattle.choice.specs.Choice.{when◌then◌else◌}
 use Rattle.choice.proofs.Choice.{when-=, when-=-not, when-≤-not}
 use Rattle.serial.specs.Ring.{wrap, nearest}
 use Rattle.serial.proofs.Ring.{wrap-id, wrap-turn, wrap-nearest, nearest-near}
-use Rattle.segment.specs.Flags.{rst, ack, SYN}
+use Rattle.segment.specs.Flags.{rst, SYN}
 use Rattle.segment.specs.declared.Segment.{Segment}
-use Rattle.connection.specs.Ends.{unheard}
 use Rattle.connection.specs.Decision.{verdict_on, free, opened, passed}
 use Rattle.connection.specs.declared.Connection.{Connection}
 use Rattle.connection.specs.declared.Verdict.{Verdict}

@@ -1,7 +1,6 @@
 use native.Mathlib.Omega.{arith}
 use lib.ListN.{length-set}
 use Rattle.octets.proofs.Overwrite.{four-sets≡overwrite}
-use borrow.Author.Rules.{rules}
 use Rattle.octets.proofs.put_little32.Goals as goal
 
 pub bounds-s-at-2 : goal.bounds-s-at-2

@@ -1,6 +1,5 @@
 use native.Mathlib.Omega.{arith}
 use Rattle.octets.proofs.BigEndian.{big_endian-2}
-use borrow.Author.Rules.{rules}
 use Rattle.octets.proofs.read16.Goals as goal
 
 pub returns : goal.returns

@@ -1,7 +1,6 @@
 use mathlib.Core.Path.{◌∙◌}
 use native.Mathlib.Omega.{arith}
 use Rattle.octets.proofs.LittleEndian.{swapped-word}
-use borrow.Author.Rules.{rules}
 use Rattle.octets.proofs.read32.Goals as goal
 
 pub returns : goal.returns

@@ -1,6 +1,5 @@
 use native.Mathlib.Omega.{arith}
 use Rattle.octets.proofs.BigEndian.{big_endian-add}
-use borrow.Author.Rules.{rules}
 use Rattle.octets.proofs.read64.Goals as goal
 
 pub returns : goal.returns

@@ -6,7 +6,6 @@ use lib.ListN.{length-set}
 use Rattle.octets.specs.Overwrite.{overwrite}
 use Rattle.octets.proofs.BigEndian.{octets_of-2}
 use Rattle.octets.proofs.Overwrite.{set-set≡overwrite}
-use borrow.Author.Rules.{rules}
 use Rattle.octets.proofs.write16.Goals as goal
 
 pub bounds-s-at-2 : goal.bounds-s-at-2

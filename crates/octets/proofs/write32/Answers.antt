@@ -5,7 +5,6 @@ use mathlib.Core.List.{List}
 use native.Mathlib.Omega.{arith}
 use Rattle.octets.specs.Overwrite.{overwrite}
 use Rattle.octets.proofs.LittleEndian.{little_octets-swapped}
-use borrow.Author.Rules.{rules}
 use Rattle.octets.proofs.write32.Goals as goal
 
 pub returns : goal.returns

@@ -1,6 +1,5 @@
 use native.Mathlib.Omega.{arith}
 use Rattle.octets.proofs.BigEndian.{overwrite-halves}
-use borrow.Author.Rules.{rules}
 use Rattle.octets.proofs.write64.Goals as goal
 
 pub returns : goal.returns

@@ -1,4 +1,4 @@
-use Rattle.std.proofs.Common.{arith, rules}
+use Rattle.std.proofs.Common.{arith}
 use Rattle.serial.proofs.Ring.{nearest-counted}
 use Rattle.serial.proofs.standing.Goals as goal
 

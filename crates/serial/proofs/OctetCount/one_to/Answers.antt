@@ -1,4 +1,4 @@
-use Rattle.std.proofs.Common.{suc, ◌≤◌, arith, rules}
+use Rattle.std.proofs.Common.{suc, ◌≤◌, arith}
 use Rattle.choice.proofs.Tests.{leb≡both}
 use Rattle.serial.proofs.OctetCount.one_to.Goals as goal
 

@@ -1,4 +1,4 @@
-use Rattle.std.proofs.Common.{sym, arith, rules}
+use Rattle.std.proofs.Common.{sym, arith}
 use Rattle.serial.proofs.Serial.{further-is}
 use Rattle.serial.proofs.SeqNum.further.Goals as goal
 

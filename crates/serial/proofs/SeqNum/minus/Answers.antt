@@ -1,4 +1,4 @@
-use Rattle.std.proofs.Common.{◌≡◌, arith, rules}
+use Rattle.std.proofs.Common.{◌≡◌, arith}
 use Rattle.serial.specs.Ring.{ring_minus}
 use Rattle.serial.proofs.Ring.{ring_minus-unique}
 use Rattle.serial.proofs.SeqNum.minus.Goals as goal

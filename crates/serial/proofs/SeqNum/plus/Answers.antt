@@ -1,4 +1,3 @@
-use Rattle.std.proofs.Common.{rules}
 use Rattle.serial.specs.Ring.{ring_plus}
 use Rattle.serial.proofs.SeqNum.plus.Goals as goal
 
