@@ -56,7 +56,7 @@ pub record FollowsHistories (n : ℕ) (l : List Ask) : Type 0 where
       (a : Ask) → Placeable a.segment →
       AnswersByAllPlaces (view_after histories n l) a (answer_of connections (outcome_after connections n l a))
 
--- from the fresh table of any number of places, after every list of well_formed calls
+-- from the fresh table of any number of places, after every list of well-formed calls
 abbrev pub Demand2 : Type 0
 Demand2 = (n : ℕ) (l : List Ask) → AllPlaceable l → FollowsHistories n l
 

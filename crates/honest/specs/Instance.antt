@@ -6,7 +6,7 @@ use Rattle.history.specs.History.{Placeable}
 use Rattle.honest.specs.Sound.{SoundView, TwoEndedView}
 use Rattle.honest.specs.Machine.{asks, Machine}
 
--- a well_formed call: side 0 or 1, and a segment fit for the line, as all are that the packet reader gives
+-- a well-formed call: side 0 or 1, and a segment fit for the line, as all are that the packet reader gives
 abbrev pub ViewCall : Type 0
 ViewCall = (a : Ask) × (a.side ≤ 1) × Placeable a.segment
 

@@ -31,7 +31,7 @@ pub record Bodies : Type 1 where
   pub free_deadline : deadline free ≡ 0
   pub freed : Body → Bool
 
--- a well_formed call: the packet's side, the clock given, addresses and ports as the packet has them, and its segment
+-- a well-formed call: the packet's side, the clock given, addresses and ports as the packet has them, and its segment
 pub record Ask : Type 0 where
   pub side : ℕ
   pub clock : ℕ

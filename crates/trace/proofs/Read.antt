@@ -1,4 +1,4 @@
--- Laws of reading: the first illegal byte, well_formed lines, and each answer of `read_line`.
+-- Laws of reading: the first illegal byte, well-formed lines, and each answer of `read_line`.
 use Prim.Native.Nat.{ℕ, zero, suc, ◌+◌, ◌-◌, ◌%◌, ◌≤◌, ◌<◌, min}
 use mathlib.Core.Path.{◌≡◌, refl, sym, ◌∙◌}
 use mathlib.Core.Bool.{Bool, true, false, ◌&&◌, and-false}
