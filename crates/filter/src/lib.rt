@@ -275,6 +275,7 @@ fn on_read(
 }
 
 // Rows 1 to 4: the number of the first that applies, or 0.
+#[tactic(auto, using(choice::proofs::Choice::when_cond), unfolding(crate::specs::Decision::table_refusal))]
 fn table_refusal(version: Version, side: u32, clock: u64, table: &[u8]) -> u32
     ensures { result ≡ table_refusal version side clock table.now }
 {

@@ -86,6 +86,7 @@ pub fn put_result(out: &mut [u8], at: usize, answer: u32, shown: Shown) -> usize
 }
 
 // A place as it is shown.
+#[tactic(auto, using(choice::proofs::Choice::when_cond), unfolding(crate::specs::Text::shown_place))]
 pub fn shown_place(place: usize) -> Shown
     ensures { result ≡ shown_place place }
 {

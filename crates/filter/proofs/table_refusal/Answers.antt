@@ -30,17 +30,6 @@ module _ (v : Version) (side clock : ℕ) (t : List ℕ) (known : side ≤ 1) (e
       table_refusal v side clock t ≡ (when not sound then 4 else 0)
   row-4 legal places sound e f = past-row-3 legal ∙ ap (λ (b : Bool). when not b then 4 else 0) (sym (f ∙ ap (sound_table v t) e))
 
-pub returns-then-side-gt1 : goal.returns-then-side-gt1
-unfolding table_refusal
-returns-then-side-gt1 c = sym (when-true _ _ _ (ap not (lt-leb c.args.side 1 (omega (arith, c.if-side-gt1.true)))))
-
-pub returns-then-clock-ge281474976710656 : goal.returns-then-clock-ge281474976710656
-unfolding table_refusal
-returns-then-clock-ge281474976710656 c =
-    let a = c.args in
-    sym (when-false _ _ _ (ap not (le-leb a.side 1 (omega (arith, c.if-side-gt1.false))))
-    ∙ when-≤ {a = 2 ^ 48} {b = a.clock} _ _ (omega (arith, c.if-clock-ge281474976710656.true)))
-
 pub returns-then-not-legal_length : goal.returns-then-not-legal_length
 returns-then-not-legal_length c =
     let a = c.args in
