@@ -7,6 +7,10 @@ const LONG_HEADER: usize = 60;
 const PAYLOAD: usize = 100;
 /// What an Ethernet frame holds of a stream.
 const FULL_PAYLOAD: usize = 1460;
+/// What Linux writes on a SYN: maximum segment size, selective acknowledgement permitted, timestamps, a NOP and a shift of 7.
+const LINUX_OPTIONS: &[u8] = &[
+    2, 4, 5, 0xb4, 4, 2, 8, 10, 1, 2, 3, 4, 0, 0, 0, 0, 1, 3, 3, 7,
+];
 
 pub struct Case {
     pub name: String,
@@ -32,6 +36,17 @@ pub fn cases() -> Vec<Case> {
     cases.extend([0, FULL_PAYLOAD].map(with_payload));
     cases.push(full_packet());
     cases.push(long_packet());
+    if !cfg!(before) {
+        cases.extend(scaled());
+    }
+    cases
+}
+
+/// What a library that knows no shifts answers otherwise.
+fn scaled() -> Vec<Case> {
+    let mut cases = whole_calls(64, Fill::Scaled);
+    cases.push(scan(64, Fill::Scaled));
+    cases.push(offering());
     cases
 }
 
@@ -97,11 +112,27 @@ fn full_packet() -> Case {
 
 fn long_packet() -> Case {
     let draft = Draft {
-        header: LONG_HEADER,
+        ip_header: LONG_HEADER,
+        options: &[1; LONG_HEADER - SHORT_HEADER],
         total: 1500,
         ..data(0)
     };
     packet("packet/options", draft)
+}
+
+/// An opening on one free place.
+fn offering() -> Case {
+    let draft = Draft {
+        options: LINUX_OPTIONS,
+        total: 2 * SHORT_HEADER + LINUX_OPTIONS.len(),
+        ..opening()
+    };
+    Case {
+        answer: 0,
+        place: 0,
+        opens: true,
+        ..packet("packet/offer", draft)
+    }
 }
 
 /// On one free place, where it matches nothing.
@@ -138,7 +169,8 @@ fn data(connection: usize) -> Draft {
         flags: ACK,
         sequence: OPENER_END,
         acknowledgement: ANSWERER_END,
-        header: SHORT_HEADER,
+        ip_header: SHORT_HEADER,
+        options: &[],
         total: 2 * SHORT_HEADER + PAYLOAD,
     }
 }

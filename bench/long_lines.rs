@@ -22,7 +22,8 @@ fn main() -> std::io::Result<()> {
         flags: SYN,
         sequence: 999,
         acknowledgement: 0,
-        header: SHORT_HEADER,
+        ip_header: SHORT_HEADER,
+        options: &[],
         total: 2 * SHORT_HEADER,
     };
     let answer = Draft {

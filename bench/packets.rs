@@ -17,8 +17,10 @@ pub struct Draft {
     pub flags: u8,
     pub sequence: u32,
     pub acknowledgement: u32,
-    /// The length of the IP header and of the TCP header.
-    pub header: usize,
+    /// The length of the IP header.
+    pub ip_header: usize,
+    /// What the TCP header has behind its first 20 octets.
+    pub options: &'static [u8],
     /// The length of the whole packet.
     pub total: usize,
 }
@@ -44,12 +46,12 @@ impl Draft {
     }
 
     fn ip_header(&self) -> Vec<u8> {
-        let mut header = vec![0x40 | (self.header / 4) as u8, 0];
+        let mut header = vec![0x40 | (self.ip_header / 4) as u8, 0];
         header.extend((self.total as u16).to_be_bytes());
         header.extend([0, 1, 0x40, 0, 64, 6, 0, 0]);
         header.extend(self.names.opener_address.to_be_bytes());
         header.extend(self.names.answerer_address.to_be_bytes());
-        header.resize(self.header, 1);
+        header.resize(self.ip_header, 1);
         let sum = ones_complement_sum(&header);
         header[10..12].copy_from_slice(&(!sum).to_be_bytes());
         header
@@ -61,10 +63,11 @@ impl Draft {
         header.extend(self.names.answerer_port.to_be_bytes());
         header.extend(self.sequence.to_be_bytes());
         header.extend(self.acknowledgement.to_be_bytes());
-        header.extend([((self.header / 4) as u8) << 4, self.flags]);
+        let length = SHORT_HEADER + self.options.len();
+        header.extend([((length / 4) as u8) << 4, self.flags]);
         header.extend(WINDOW.to_be_bytes());
         header.extend([0; 4]);
-        header.resize(self.header, 1);
+        header.extend(self.options);
         header
     }
 }

@@ -17,6 +17,8 @@ pub enum Fill {
     /// Every second place, from place 0 on, is live.
     Half,
     Live,
+    /// All live, and both ends of each offered a shift.
+    Scaled,
 }
 
 impl Fill {
@@ -25,6 +27,7 @@ impl Fill {
             Fill::Free => "free",
             Fill::Half => "half",
             Fill::Live => "live",
+            Fill::Scaled => "scaled",
         }
     }
 
@@ -32,16 +35,25 @@ impl Fill {
         match self {
             Fill::Free => Vec::new(),
             Fill::Half => (0..places).step_by(2).collect(),
-            Fill::Live => (0..places).collect(),
+            Fill::Live | Fill::Scaled => (0..places).collect(),
         }
     }
 
     pub fn table(self, places: usize) -> Vec<u8> {
         let mut table = vec![0; ENTRY * (places + 1)];
         for place in self.live_places(places) {
-            store(&mut table, HEADER_CLOCK, place, &established(place));
+            store(&mut table, HEADER_CLOCK, place, &self.entry(place));
         }
         table
+    }
+
+    fn entry(self, place: usize) -> Entry {
+        let mut entry = established(place);
+        if let Fill::Scaled = self {
+            entry.connection.shifts = [7, 7];
+            entry.connection.offers = 3;
+        }
+        entry
     }
 }
 
@@ -63,6 +75,7 @@ fn established(place: usize) -> Entry {
                 end(OPENER_END, OPENER_END + 4000),
                 end(ANSWERER_END, ANSWERER_END),
             ],
+            ..Connection::default()
         },
     }
 }

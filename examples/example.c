@@ -48,7 +48,7 @@ int main(void) {
     }
     printf("passed %zu of %zu\n", passed, lines);
 
-    /* On answers 5 to 10 and 16 the place is the offset of the field that failed: 10, the IP header's checksum, though it is byte 8 that was changed,
+    /* On answers 5 to 10, 16 and 19 the place is the offset of the field that failed: 10, the IP header's checksum, though it is byte 8 that was changed,
        and 36, TCP's, though it is byte 27. */
     uint8_t damaged[QB_MOST_PACKET_BYTES];
     uint8_t side;

@@ -50,7 +50,7 @@ mod quaybonnet {
     pub enum Answer {
         /// 0: it may pass, by the entry at this place of the table.
         Passed { place: u32 },
-        /// 5 to 10 and 16: it broke at this byte offset. Where bytes are missing that may be the packet's length.
+        /// 5 to 10, 16 and 19: it broke at this byte offset. Where bytes are missing that may be the packet's length.
         Broken { number: u32, offset: u32 },
         /// Every other number.
         Blocked { number: u32 },

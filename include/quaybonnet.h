@@ -20,14 +20,14 @@ extern "C" {
 /* Length in bytes of a table with n places, n from 1 to 512. All zeros are a fresh table. */
 #define QB_TABLE_LENGTH(n) (64 * ((n) + 1))
 
-/* The place of every answer but 0, 5 to 10 and 16. */
+/* The place of every answer but 0, 5 to 10, 16 and 19. */
 #define QB_NO_PLACE 65535
 
 /*
  * Asks the filter about one packet: the side that it came from (0 or 1), a clock in ms, the table, the packet from its IPv4 header on.
  * Returns answer * 65536 + place. On answer 0 the packet may pass, and the header clock and the entry at that place have been written;
- * on every other it is to be dropped, and no byte of the table has changed. On answers 5 to 10 and 16 the place is the offset in the packet of the field
- * that failed or, where bytes are missing, of the header that is cut short; it is not a place of the table, so tell a pass by the answer alone.
+ * on every other it is to be dropped, and no byte of the table has changed. On answers 5 to 10, 16 and 19 the place is the offset in the packet of the field
+ * or option that failed or, where bytes are missing, of the header that is cut short; it is not a place of the table, so tell a pass by the answer alone.
  * It is below packet_len, or equal to it where the packet is empty (5) or ends with its IP header (9): compare before you index. It is always
  * below 120. Every other refusal has QB_NO_PLACE. The packet is only read. Any side, clock, lengths and bytes are answered. The answer is the first
  * of these that applies, and the offset, in brackets, that of the first cause; h is the length of the IP header, 4 * (packet[0] & 15):
@@ -43,6 +43,8 @@ extern "C" {
  *   16  the TCP checksum, over the pseudo-header and the segment up to total length, is wrong [h + 16]. Hand over packets as they are on the wire:
  *       a checksum that is left to the network card, or segments joined into one, get 16
  *   10  SYN with FIN or RST, none of SYN, ACK and RST, or SYN with payload [h + 13]
+ *   19  a SYN, with or without ACK, whose TCP options are malformed: but for kinds 0 and 1, one whose length is under 2 or whose bytes run past the
+ *       data offset [the first such option's kind byte]
  *   11  no live connection matches, and it is not a SYN without ACK from side 0
  *   12  it would open a connection, and no place is free or expired
  *   13  the connection's SYN is not answered yet, and this is neither the same SYN nor an answer to it

@@ -1,6 +1,6 @@
 //! One connection of the table and what a segment that matches it changes
-//! (document 01, "The table", "Ranges" and "Stages", and document 02, item 6).
-//! Addresses, ports and the search for the match are not part of it.
+//! (document 01, "The table", "Ranges" and "Stages", and document 02, items 6
+//! and 8). Addresses, ports and the search for the match are not part of it.
 
 use crate::packet::{ACK, FIN, RST, SYN};
 
@@ -22,10 +22,16 @@ const BOTH_FINS: u8 = 3;
 /// "From stage 2 on, a passed reset now gives stage 6" (document 02, item 6).
 pub const RESET_STAGE: u8 = 6;
 
-/// "(T.end − a) mod 2^32 ≤ 66,000"
-const OLDEST_ACKNOWLEDGEMENT: u32 = 66_000;
-/// "each (edge − end) mod 2^32 at most 65,535", "each win 1 to 65,535"
-const LARGEST_WINDOW: u32 = 65_535;
+/// "byte 50 who offered one (bits as for FIN)" (document 02, item 8).
+const BOTH_OFFERS: u8 = 3;
+/// "a shift above 14 counts as 14"
+pub const LARGEST_SHIFT: u8 = 14;
+
+/// "(T.end − a) mod 2^32 ≤ 66,000", which item 8 of document 02 makes
+/// "66,000·2^k".
+pub const OLDEST_ACKNOWLEDGEMENT: u32 = 66_000;
+/// "Largest window: 65,535·2^14."
+pub const LARGEST_WINDOW: u32 = 65_535 << LARGEST_SHIFT;
 /// "deadline at most header clock plus 432,000,000"
 const LONGEST_LIFE: u64 = 432_000_000;
 
@@ -51,6 +57,11 @@ pub struct Connection {
     pub deadline: u64,
     /// The opener's record, then the answerer's.
     pub ends: [End; 2],
+    /// "bytes 48 and 49 hold the two shifts, opener's first": 14 at most, and 0
+    /// of an end that offered none.
+    pub shifts: [u8; 2],
+    /// "byte 50 who offered one (bits as for FIN)"
+    pub offers: u8,
 }
 
 /// What a connection sees of a well-formed segment; "Write s, a, w for the
@@ -63,6 +74,8 @@ pub struct Segment {
     /// FIN, SYN, RST and ACK; every other bit is 0.
     pub flags: u8,
     pub octets: u32,
+    /// The shift that a SYN offers, as its option has it, if it offers one.
+    pub offer: Option<u8>,
 }
 
 impl Segment {
@@ -83,6 +96,17 @@ impl Segment {
     /// send.
     fn edge(&self) -> u32 {
         self.acknowledgement.wrapping_add(self.window.max(1))
+    }
+
+    /// The shift to be stored: "a shift above 14 counts as 14", and "0 where none
+    /// was offered".
+    fn shift(&self) -> u8 {
+        self.offer.unwrap_or(0).min(LARGEST_SHIFT)
+    }
+
+    /// The bit of the end that sends it, if it offers a shift.
+    fn offer_bit(&self, sender: usize) -> u8 {
+        u8::from(self.offer.is_some()) << sender
     }
 }
 
@@ -135,7 +159,8 @@ impl End {
         place.wrapping_sub(self.end) as i32
     }
 
-    /// "each win 1 to 65,535; each (edge − end) mod 2^32 at most 65,535"
+    /// "each win and each (edge − end) up to that largest window"; "each win 1 to
+    /// [..]", as in document 01.
     fn is_sound(&self) -> bool {
         (1..=LARGEST_WINDOW).contains(&self.win)
             && self.edge.wrapping_sub(self.end) <= LARGEST_WINDOW
@@ -151,7 +176,7 @@ const NOT_ANSWERED: End = End {
 
 impl Connection {
     /// "Opening SYN: stage 1, FIN bits 0 whatever the place held; opener end =
-    /// edge = s + 1, win = max(w, 1); answerer 0, 0, 1."
+    /// edge = s + 1, win = max(w, 1); answerer 0, 0, 1." It may offer a shift.
     pub fn open(side: u8, segment: &Segment, clock_used: u64) -> Connection {
         Connection {
             stage: 1,
@@ -159,6 +184,8 @@ impl Connection {
             fins: 0,
             deadline: clock_used + life(1),
             ends: [End::of_syn(segment), NOT_ANSWERED],
+            shifts: [segment.shift(), 0],
+            offers: segment.offer_bit(OPENER),
         }
     }
 
@@ -171,7 +198,8 @@ impl Connection {
     /// [...] FIN bits 0 in stages 1 to 3, 1 or 2 in stage 4, 3 in stage 5;
     /// deadline at most header clock plus 432,000,000; [...] in stage 1 the
     /// opener's edge equals its end and the answerer has 0, 0, 1." Document 02,
-    /// item 6: "Sound tables may hold stage 6 with FIN bits 0 to 3."
+    /// item 6: "Sound tables may hold stage 6 with FIN bits 0 to 3."; for item 8
+    /// see below.
     #[inline]
     pub fn is_sound(&self, header_clock: u64) -> bool {
         let fins_fit = match self.stage {
@@ -188,6 +216,42 @@ impl Connection {
             && self.side <= 1
             && self.deadline <= header_clock + LONGEST_LIFE
             && self.ends.iter().all(End::is_sound)
+            && self.scaling_is_sound()
+    }
+
+    /// "shifts to 14, 0 where none was offered, no answerer's offer in stage 1"
+    #[inline]
+    fn scaling_is_sound(&self) -> bool {
+        let shift_fits = |end: usize| match self.offers >> end & 1 {
+            0 => self.shifts[end] == 0,
+            _ => self.shifts[end] <= LARGEST_SHIFT,
+        };
+        let most = if self.stage == 1 { 1 } else { BOTH_OFFERS };
+        self.offers <= most && shift_fits(OPENER) && shift_fits(ANSWERER)
+    }
+
+    /// How far this end's windows are shifted: by its own shift "If both SYN and
+    /// SYN+ACK carried the option".
+    pub fn scale(&self, sender: usize) -> u8 {
+        if self.offers == BOTH_OFFERS {
+            self.shifts[sender]
+        } else {
+            0
+        }
+    }
+
+    /// The segment with its window in octets: "windows of segments without SYN are
+    /// shifted by their sender's shift".
+    fn scaled(&self, sender: usize, segment: &Segment) -> Segment {
+        let shift = if segment.has(SYN) {
+            0
+        } else {
+            self.scale(sender)
+        };
+        Segment {
+            window: segment.window << shift,
+            ..*segment
+        }
     }
 
     /// Gives the connection after a pass, or the answer 13, 14 or 15. The
@@ -201,8 +265,9 @@ impl Connection {
         let passed = if self.stage == 1 {
             self.in_stage_1(sender, segment)?
         } else {
-            self.check_ranges(sender, segment)?;
-            self.in_later_stage(sender, segment)
+            let segment = self.scaled(sender, segment);
+            self.check_ranges(sender, &segment)?;
+            self.in_later_stage(sender, &segment)
         };
         // "After each pass that doesn't free the entry, deadline = clock used
         // + life of the new stage."
@@ -241,7 +306,7 @@ impl Connection {
     }
 
     /// "which makes win the larger of win and w and touches no other of the six
-    /// numbers"
+    /// numbers". "Offers on a repeated SYN change nothing."
     fn with_same_syn(&self, segment: &Segment) -> Connection {
         let [opener, answerer] = self.ends;
         let opener = End {
@@ -260,11 +325,14 @@ impl Connection {
     }
 
     /// "SYN+ACK sets the answerer's end = edge = s + 1 and win = max(w, 1),
-    /// raises the opener's edge, and gives stage 2."
+    /// raises the opener's edge, and gives stage 2." Its offer is kept beside the
+    /// opener's.
     fn answered(&self, segment: &Segment) -> Connection {
         Connection {
             stage: 2,
             ends: [self.ends[OPENER].received(segment), End::of_syn(segment)],
+            shifts: [self.shifts[OPENER], segment.shift()],
+            offers: self.offers | segment.offer_bit(ANSWERER),
             ..*self
         }
     }
@@ -274,7 +342,7 @@ impl Connection {
         let (from, to) = (self.ends[sender], self.ends[1 - sender]);
         if !sequence_met(from, to, segment) {
             Err(SEQUENCE_MISSED)
-        } else if segment.has(ACK) && !acknowledgement_met(to, segment) {
+        } else if segment.has(ACK) && !acknowledgement_met(to, segment, self.scale(sender)) {
             Err(ACKNOWLEDGEMENT_MISSED)
         } else {
             Ok(())
@@ -340,9 +408,10 @@ fn sequence_met(from: End, to: End, segment: &Segment) -> bool {
     start + u64::from(segment.octets) <= room
 }
 
-/// "(T.end − a) mod 2^32 ≤ 66,000"
-fn acknowledgement_met(to: End, segment: &Segment) -> bool {
-    to.end.wrapping_sub(segment.acknowledgement) <= OLDEST_ACKNOWLEDGEMENT
+/// "(T.end − a) mod 2^32", up to "66,000·2^k", "k being the acknowledging end's
+/// shift, 0 unless both offered".
+fn acknowledgement_met(to: End, segment: &Segment, scale: u8) -> bool {
+    to.end.wrapping_sub(segment.acknowledgement) <= OLDEST_ACKNOWLEDGEMENT << scale
 }
 
 /// "Life of a stage, in ms: 1 and 2: 60,000; 3: 432,000,000; 4: 3,600,000; 5:
@@ -373,6 +442,8 @@ mod tests {
             edge: 0,
             win: 0,
         }; 2],
+        shifts: [0; 2],
+        offers: 0,
     };
 
     fn end(end: u32, edge: u32, win: u32) -> End {
@@ -386,6 +457,7 @@ mod tests {
             window: 1000,
             flags,
             octets,
+            offer: None,
         }
     }
 
@@ -420,6 +492,8 @@ mod tests {
             fins: 0,
             deadline: 60_100,
             ends: [end(101, 2101, 1000), end(501, 501, 2000)],
+            shifts: [0; 2],
+            offers: 0,
         };
         assert_eq!(state_k(), expected);
         // The third line of the example.
@@ -468,6 +542,8 @@ mod tests {
                 fins: 0,
                 deadline: 1,
                 ends,
+                shifts: [0; 2],
+                offers: 0,
             };
             let offered = segment(ACK, 2_147_483_647, 65_495, acknowledgement);
             assert_eq!(held.offer(sender, &offered, 0), Err(14));
@@ -613,6 +689,177 @@ mod tests {
         }
     }
 
+    /// A SYN that offers this shift, or none.
+    fn offering(segment: Segment, offer: Option<u8>) -> Segment {
+        Segment { offer, ..segment }
+    }
+
+    /// State K with offers on SYN and SYN+ACK.
+    fn answered_with(opener: Option<u8>, answerer: Option<u8>) -> Connection {
+        let syn = offering(segment(SYN, 100, 1, 0), opener);
+        let syn_ack = offering(example_syn_ack(), answerer);
+        let opened = Connection::open(0, &syn, 0);
+        let answered = opened.offer(ANSWERER, &syn_ack, 100);
+        answered.expect("the example passes it")
+    }
+
+    /// "who offered one (bits as for FIN)"; "a shift above 14 counts as 14".
+    #[test]
+    fn offers_are_kept() {
+        let cases = [
+            (None, None, [0, 0], 0),
+            (Some(7), None, [7, 0], 1),
+            (None, Some(3), [0, 3], 2),
+            (Some(7), Some(3), [7, 3], 3),
+            (Some(0), Some(0), [0, 0], 3),
+            (Some(14), Some(15), [14, 14], 3),
+            (Some(255), Some(14), [14, 14], 3),
+        ];
+        for (opener, answerer, shifts, offers) in cases {
+            let held = answered_with(opener, answerer);
+            // The windows of SYN and SYN+ACK are as in state K.
+            let expected = Connection {
+                shifts,
+                offers,
+                ..state_k()
+            };
+            assert_eq!(held, expected);
+            assert!(held.is_sound(100));
+            for sender in [OPENER, ANSWERER] {
+                let scale = if offers == 3 { shifts[sender] } else { 0 };
+                assert_eq!(held.scale(sender), scale);
+            }
+        }
+    }
+
+    /// "Offers on a repeated SYN change nothing."
+    #[test]
+    fn repeated_offers_change_nothing() {
+        let offers = [None, Some(0), Some(9), Some(255)];
+        let syn = segment(SYN, 100, 1, 0);
+        for first in offers {
+            let opened = Connection::open(0, &offering(syn, first), 0);
+            for (again, answered) in offers.into_iter().zip([first, Some(4), None, Some(1)]) {
+                let same_syn = offering(syn, again);
+                assert_eq!(opened.offer(OPENER, &same_syn, 0), Ok(opened));
+                let held = answered_with(first, answered);
+                for (stage, fins) in LATER_STAGES {
+                    let held = Connection {
+                        stage,
+                        fins,
+                        ..held
+                    };
+                    let syn_ack = offering(example_syn_ack(), again);
+                    for (sender, repeated) in [(OPENER, same_syn), (ANSWERER, syn_ack)] {
+                        let passed = held.offer(sender, &repeated, 100).expect("in range");
+                        assert_eq!(passed.shifts, held.shifts);
+                        assert_eq!(passed.offers, held.offers);
+                        assert_eq!(passed.ends, held.ends);
+                    }
+                    let reset = held.offer(OPENER, &segment(RST, 101, 0, 0), 100);
+                    let reset = reset.expect("in range");
+                    assert_eq!((reset.shifts, reset.offers), (held.shifts, held.offers));
+                }
+            }
+        }
+        let refused = segment(RST | ACK, 500, 0, 101);
+        let opened = Connection::open(0, &offering(syn, Some(7)), 0);
+        assert_eq!(opened.offer(ANSWERER, &refused, 1), Ok(FREED));
+    }
+
+    /// "windows of segments without SYN are shifted by their sender's shift", if
+    /// both offered.
+    #[test]
+    fn windows_are_shifted() {
+        let after = |held: Connection, sender: usize, flags: u8, window: u32| {
+            let (place, octets, other) = match (sender, flags & SYN) {
+                (OPENER, 0) => (101, 0, 501),
+                (OPENER, _) => (100, 1, 501),
+                (_, 0) => (501, 0, 101),
+                _ => (500, 1, 101),
+            };
+            let offered = Segment {
+                window,
+                ..segment(flags, place, octets, other)
+            };
+            held.offer(sender, &offered, 200).expect("in range").ends
+        };
+        let held = answered_with(Some(7), Some(3));
+        let ends = after(held, OPENER, ACK, 1000);
+        assert_eq!(ends, [end(101, 2101, 128_000), end(501, 128_501, 2000)]);
+        let ends = after(held, ANSWERER, ACK, 1000);
+        assert_eq!(ends, [end(101, 8101, 1000), end(501, 501, 8000)]);
+        // Not on SYN; without ACK no edge moves. "max(w, 1)" after the shift.
+        let ends = after(held, ANSWERER, SYN | ACK, 3000);
+        assert_eq!(ends, [end(101, 3101, 1000), end(501, 501, 3000)]);
+        let ends = after(held, OPENER, SYN, 3000);
+        assert_eq!(ends, [end(101, 2101, 3000), end(501, 501, 2000)]);
+        let ends = after(held, OPENER, ACK, 0);
+        assert_eq!(ends, [end(101, 2101, 1000), end(501, 502, 2000)]);
+        // "Largest window: 65,535·2^14."
+        let largest = answered_with(Some(255), Some(14));
+        let ends = after(largest, OPENER, ACK, 65_535);
+        let window = 1_073_725_440;
+        assert_eq!(ends[OPENER].win, window);
+        assert_eq!(ends[ANSWERER].edge, 501 + window);
+        for (opener, answerer) in [(Some(7), None), (None, Some(7))] {
+            let ends = after(answered_with(opener, answerer), OPENER, ACK, 3000);
+            assert_eq!(ends, [end(101, 2101, 3000), end(501, 3501, 2000)]);
+        }
+    }
+
+    /// "Acknowledgement range: 66,000·2^k", "k being the acknowledging end's shift,
+    /// 0 unless both offered"; on a repeated SYN+ACK too.
+    #[test]
+    fn the_acknowledgement_range_is_scaled() {
+        for (shifts, offers) in [([7, 3], 3), ([14, 0], 3), ([0, 14], 3), ([7, 0], 1)] {
+            let held = Connection {
+                shifts,
+                offers,
+                ..state_k()
+            };
+            for sender in [OPENER, ANSWERER] {
+                let other = held.ends[1 - sender].end;
+                let range = 66_000 << held.scale(sender);
+                for flags in [ACK, SYN | ACK, RST | ACK] {
+                    let octets = u32::from(flags & SYN != 0);
+                    let answer = |behind: u32| {
+                        let place = held.ends[sender].end - octets;
+                        let old = segment(flags, place, octets, other.wrapping_sub(behind));
+                        held.offer(sender, &old, 200).err().unwrap_or(0)
+                    };
+                    assert_eq!((answer(range), answer(range + 1)), (0, 15));
+                }
+            }
+        }
+    }
+
+    #[test]
+    fn sound_scaling() {
+        let check = |stage: u8, shifts: [u8; 2], offers: u8, expected: bool| {
+            let held = match stage {
+                1 => example_opened(),
+                _ => in_stage(stage, 0),
+            };
+            let held = Connection {
+                shifts,
+                offers,
+                ..held
+            };
+            assert_eq!(held.is_sound(100), expected, "{held:?}");
+        };
+        for (opener, answerer) in [(0, 0), (1, 0), (14, 14), (15, 0), (0, 15), (0, 1), (255, 0)] {
+            for offers in 0..=255 {
+                let fits = |shift: u8, bit: u8| shift == 0 || offers & bit != 0 && shift <= 14;
+                let fit = fits(opener, 1) && fits(answerer, 2);
+                for stage in [2, 3, 6] {
+                    check(stage, [opener, answerer], offers, fit && offers <= 3);
+                }
+                check(1, [opener, answerer], offers, fit && offers <= 1);
+            }
+        }
+    }
+
     #[test]
     fn further_is_nearest_the_end() {
         let record = end(4_294_967_290, 3, 1);
@@ -653,10 +900,11 @@ mod tests {
                 1 => u32::MAX - self.below(70_000),
                 _ => self.next(),
             };
+            let largest = [65_535, LARGEST_WINDOW][self.below(2) as usize];
             End {
                 end,
-                edge: end.wrapping_add(self.count(0, 65_535)),
-                win: self.count(1, 65_535),
+                edge: end.wrapping_add(self.count(0, largest)),
+                win: self.count(1, largest),
             }
         }
 
@@ -668,11 +916,14 @@ mod tests {
                 fins,
                 deadline: 1 + u64::from(self.below(1000)),
                 ends: [self.record(), self.record()],
+                shifts: [self.count(0, 14) as u8, self.count(0, 14) as u8],
+                offers: 3,
             }
+            .with_fewer_offers(self.below(8) as u8)
         }
 
         /// A well-formed segment near both ranges.
-        fn segment(&mut self, from: End, to: End) -> Segment {
+        fn segment(&mut self, from: End, to: End, scale: u8) -> Segment {
             let flags = [2, 4, 5, 16, 17, 18, 20, 21][self.below(8) as usize];
             let payload = if flags & SYN != 0 {
                 0
@@ -685,10 +936,26 @@ mod tests {
             let place = [first, last, from.end, from.edge][self.below(4) as usize];
             Segment {
                 sequence: place.wrapping_add(self.below(3)).wrapping_sub(1),
-                acknowledgement: to.end.wrapping_sub(self.count(0, 66_001)),
+                acknowledgement: to.end.wrapping_sub(self.count(0, (66_000 << scale) + 1)),
                 window: self.count(0, 65_535),
                 flags,
                 octets,
+                offer: (flags & SYN != 0 && self.below(2) == 0).then_some(self.next() as u8),
+            }
+        }
+    }
+
+    impl Connection {
+        /// With these offers only, if they are any.
+        fn with_fewer_offers(self, offers: u8) -> Connection {
+            if offers > BOTH_OFFERS {
+                return self;
+            }
+            let shift = |end: usize| self.shifts[end] * (offers >> end & 1);
+            Connection {
+                shifts: [shift(OPENER), shift(ANSWERER)],
+                offers,
+                ..self
             }
         }
     }
@@ -711,19 +978,20 @@ mod tests {
             let held = random.connection();
             let sender = random.below(2) as usize;
             let (from, to) = (held.ends[sender], held.ends[1 - sender]);
-            let offered = random.segment(from, to);
+            let offered = random.segment(from, to, held.scale(sender));
             let met = unwrapped_sequence_met(from, to, &offered);
             let result = held.offer(sender, &offered, 0);
             answers[result.err().unwrap_or(0) as usize] += 1;
             assert_eq!(result != Err(14), met, "{held:?} {offered:?}");
             let Ok(passed) = result else { continue };
             assert!(passed.is_sound(0), "{held:?} {offered:?}");
+            assert_eq!((passed.shifts, passed.offers), (held.shifts, held.offers));
             if offered.has(RST) {
                 assert_eq!((passed.stage, passed.deadline), (6, 10_000));
                 assert_eq!((passed.fins, passed.ends), (held.fins, held.ends));
                 continue;
             }
-            let risen = |before: u32, after: u32| after.wrapping_sub(before) <= 65_535;
+            let risen = |before: u32, after: u32| after.wrapping_sub(before) <= LARGEST_WINDOW;
             for (before, after) in held.ends.iter().zip(&passed.ends) {
                 assert!(risen(before.end, after.end));
                 assert!(risen(before.edge, after.edge));

@@ -1,14 +1,14 @@
 //! The filter: one call (document 01, "What the gate says"). "One call takes
 //! side, clock, table, packet. It gives an answer and a place. The first line
 //! that applies wins, top to bottom." Where the packet reader refuses, the place
-//! is the reader's offset (document 02, items 2 and 5).
+//! is the reader's offset (document 02, items 2, 5 and 8).
 
 use crate::connection::{self, Connection};
 use crate::packet::{self, ACK, SYN};
 use crate::table::{self, Entry, Names};
 
 /// "Every other answer gives place 65,535": every one but a pass and, by
-/// document 02, items 2 and 5, answers 5 to 10 and 16.
+/// document 02, items 2, 5 and 8, answers 5 to 10, 16 and 19.
 pub const NO_PLACE: u32 = 65_535;
 
 /// "otherwise: passed"
@@ -42,8 +42,9 @@ struct Refusal {
     place: u32,
 }
 
-/// "For answers 5 to 10 the place becomes a byte offset", and item 5: "16 where
-/// the whole sum isn't ffff, [..] offset h + 16".
+/// "For answers 5 to 10 the place becomes a byte offset", item 5: "16 where the
+/// whole sum isn't ffff, [..] offset h + 16", and item 8: "19 malformed options on
+/// a SYN, [..] offset of the bad option".
 fn at_offset(refusal: packet::Refusal) -> Refusal {
     Refusal {
         answer: refusal.answer,
@@ -161,13 +162,14 @@ pub fn names(segment: &packet::Segment) -> Names {
 }
 
 /// What the connection sees of the segment.
-fn numbers(segment: &packet::Segment) -> connection::Segment {
+pub fn numbers(segment: &packet::Segment) -> connection::Segment {
     connection::Segment {
         sequence: segment.sequence,
         acknowledgement: segment.acknowledgement,
         window: u32::from(segment.window),
         flags: segment.flags,
         octets: segment.octets,
+        offer: segment.offer,
     }
 }
 

@@ -1,9 +1,10 @@
 //! Reads an IPv4 packet that holds one TCP segment.
 //!
-//! The refusals are answers 5 to 10 of document 01 and 16 of document 02, item
-//! 5, each with the offset that document 02, items 2 and 5, gives it: "The first
-//! cause in document 01's order counts." The IP header is laid out as in RFC
-//! 791, section 3.1, the TCP header as in RFC 9293, section 3.1.
+//! The refusals are answers 5 to 10 of document 01, 16 of document 02, item 5,
+//! and 19 of item 8, each with the offset that document 02, items 2, 5 and 8,
+//! gives it: "The first cause in document 01's order counts." The IP header is
+//! laid out as in RFC 791, section 3.1, the TCP header as in RFC 9293, section
+//! 3.1, and the option that offers window scaling as in RFC 7323, section 2.2.
 
 use crate::checksum::{ones_complement_sum, tcp_sum};
 
@@ -15,7 +16,7 @@ pub const ACK: u8 = 0x10;
 /// Why a packet is refused, and where it broke.
 #[derive(Clone, Copy, Debug, PartialEq, Eq)]
 pub struct Refusal {
-    /// 5 to 10, or 16.
+    /// 5 to 10, 16 or 19.
     pub answer: u32,
     /// In bytes from the packet's first one.
     pub offset: u32,
@@ -48,6 +49,12 @@ const BAD_TCP_SUM: Refusal = refusal(16, 16);
 /// "10: h + 13"
 const BAD_FLAGS: Refusal = refusal(10, 13);
 
+/// "19 malformed options on a SYN, after 10, offset of the bad option", which
+/// starts so many bytes after the first option.
+fn bad_option(at: usize) -> Refusal {
+    refusal(19, (SHORTEST_HEADER + at) as u32)
+}
+
 const fn refusal(answer: u32, offset: u32) -> Refusal {
     Refusal { answer, offset }
 }
@@ -70,6 +77,14 @@ const TCP_PROTOCOL: u8 = 6;
 const MORE_FRAGMENTS: u16 = 0x2000;
 const FRAGMENT_OFFSET: u16 = 0x1fff;
 
+/// "kind 0 ends, kind 1 skips", "the first kind 3 of length 3 counts"
+const END_OF_OPTIONS: u8 = 0;
+const NO_OPERATION: u8 = 1;
+const WINDOW_SCALE: u8 = 3;
+const WINDOW_SCALE_LENGTH: usize = 3;
+/// "others need a length of at least 2": kind and length themselves.
+const SHORTEST_OPTION: usize = 2;
+
 /// The fields of a well-formed segment.
 #[derive(Clone, Copy, Debug, PartialEq, Eq)]
 pub struct Segment {
@@ -84,6 +99,8 @@ pub struct Segment {
     pub flags: u8,
     /// "payload octets plus one each for SYN and FIN"
     pub octets: u32,
+    /// The shift that a SYN offers, as its option has it, if it offers one.
+    pub offer: Option<u8>,
 }
 
 /// Gives the segment, or what refuses the packet: "The first line that applies
@@ -107,6 +124,8 @@ pub fn read(bytes: &[u8]) -> Result<Segment, Refusal> {
     if !flags_allowed(flags, payload) {
         return Err(BAD_FLAGS.after(ip));
     }
+    let offer = offer(flags, &tcp[SHORTEST_HEADER..])
+        .map_err(|malformed| bad_option(malformed).after(ip))?;
     Ok(Segment {
         source: u32_at(ip, 12),
         destination: u32_at(ip, 16),
@@ -117,6 +136,7 @@ pub fn read(bytes: &[u8]) -> Result<Segment, Refusal> {
         window: u16_at(tcp, 14),
         flags,
         octets: octets(flags, payload),
+        offer,
     })
 }
 
@@ -164,6 +184,40 @@ fn flags_allowed(flags: u8, payload: &[u8]) -> bool {
 /// total length, a 16-bit number.
 fn octets(flags: u8, payload: &[u8]) -> u32 {
     payload.len() as u32 + (flags & (SYN | FIN)).count_ones()
+}
+
+/// The shift that the segment offers, or where its first malformed option
+/// starts. "Options are walked on SYN only".
+fn offer(flags: u8, options: &[u8]) -> Result<Option<u8>, usize> {
+    if flags & SYN == 0 {
+        return Ok(None);
+    }
+    let mut offer = None;
+    let mut at = 0;
+    // What comes after an option that counts may still be malformed, so the walk
+    // goes on.
+    while let Some((option, next)) = option_at(options, at)? {
+        if option[0] == WINDOW_SCALE && option.len() == WINDOW_SCALE_LENGTH {
+            offer = offer.or(Some(option[2]));
+        }
+        at = next;
+    }
+    Ok(offer)
+}
+
+/// The option that starts there and where the next one does; nothing at the end.
+/// "kind 0 ends, kind 1 skips, others need a length of at least 2 inside the
+/// header": the length lies inside it, and so does all that it counts.
+fn option_at(options: &[u8], at: usize) -> Result<Option<(&[u8], usize)>, usize> {
+    let length = match options[at..] {
+        [] | [END_OF_OPTIONS, ..] => return Ok(None),
+        [NO_OPERATION, ..] => 1,
+        [_, length, ..] if usize::from(length) >= SHORTEST_OPTION => usize::from(length),
+        _ => return Err(at),
+    };
+    let next = at + length;
+    let option = options.get(at..next).ok_or(at)?;
+    Ok(Some((option, next)))
 }
 
 /// Network order: the first byte is the highest.
@@ -296,6 +350,108 @@ mod tests {
         assert_eq!(read(&packet), Err(refusal(16, 36)));
         packet[37] -= 1;
         assert_eq!(read(&packet).map(|segment| segment.octets), Ok(1));
+    }
+
+    /// What the options of a SYN offer, or where they are malformed; those of a
+    /// SYN+ACK do the same.
+    fn walked(options: &[u8]) -> Result<Option<u8>, usize> {
+        let walked = offer(SYN, options);
+        assert_eq!(offer(SYN | ACK, options), walked);
+        walked
+    }
+
+    #[test]
+    fn the_first_kind_3_of_length_3_counts() {
+        assert_eq!(walked(&[]), Ok(None));
+        assert_eq!(walked(&[1, 1, 1, 1]), Ok(None));
+        for shift in [0, 7, 14, 15, 255] {
+            assert_eq!(walked(&[1, 3, 3, shift]), Ok(Some(shift)));
+            assert_eq!(walked(&[3, 3, shift, 1]), Ok(Some(shift)));
+            assert_eq!(walked(&[3, 3, shift, 0]), Ok(Some(shift)));
+        }
+        assert_eq!(walked(&[3, 3, 7, 3, 3, 9, 1, 1]), Ok(Some(7)));
+        // Another length of kind 3 is skipped; a later one may count.
+        assert_eq!(walked(&[3, 2, 1, 1]), Ok(None));
+        assert_eq!(walked(&[3, 2, 1, 3, 3, 6, 1, 1]), Ok(Some(6)));
+        assert_eq!(walked(&[3, 4, 3, 3, 3, 3, 6, 1]), Ok(Some(6)));
+        // What an option holds is not walked.
+        assert_eq!(walked(&[2, 4, 3, 3]), Ok(None));
+        assert_eq!(walked(&[8, 8, 3, 3, 7, 0, 3, 1, 3, 3, 5, 1]), Ok(Some(5)));
+        // Nor what comes after kind 0.
+        assert_eq!(walked(&[0, 3, 3, 7]), Ok(None));
+        assert_eq!(walked(&[2, 4, 5, 180, 0, 3, 3, 7]), Ok(None));
+    }
+
+    #[test]
+    fn where_an_option_is_malformed() {
+        for kind in [2, 3, 4, 5, 8, 28, 254, 255] {
+            assert_eq!(walked(&[kind, 0, 1, 1]), Err(0));
+            assert_eq!(walked(&[kind, 1, 1, 1]), Err(0));
+            assert_eq!(walked(&[kind, 2, 1, 1]), Ok(None));
+            assert_eq!(walked(&[kind, 4, 1, 1]), Ok(None));
+            assert_eq!(walked(&[kind, 5, 1, 1]), Err(0));
+            assert_eq!(walked(&[kind, 255, 1, 1]), Err(0));
+            // Its length would lie outside the header.
+            assert_eq!(walked(&[1, 1, 1, kind]), Err(3));
+            assert_eq!(walked(&[1, 1, kind, 2]), Ok(None));
+            assert_eq!(walked(&[1, 1, kind, 3]), Err(2));
+            // Also after one that counts, not after kind 0.
+            assert_eq!(walked(&[3, 3, 7, kind]), Err(3));
+            assert_eq!(walked(&[3, 3, 7, 0, kind, 0, 0, 0]), Ok(Some(7)));
+            assert_eq!(walked(&[0, kind, 1, 1]), Ok(None));
+        }
+    }
+
+    #[test]
+    fn options_are_walked_on_syn_only() {
+        for flags in [RST, RST | FIN, ACK, ACK | FIN, RST | ACK, RST | ACK | FIN] {
+            assert_eq!(offer(flags, &[3, 3, 7, 1]), Ok(None));
+            assert_eq!(offer(flags, &[3, 0, 7, 1]), Ok(None));
+        }
+    }
+
+    /// The packet without payload, with these flags and options; sums are right.
+    fn with_tcp_options(mut packet: Vec<u8>, flags: u8, options: &[u8]) -> Vec<u8> {
+        let h = 4 * usize::from(packet[0] & 0x0f);
+        packet.truncate(h + 20);
+        packet.extend(options);
+        packet[3] = packet.len() as u8;
+        packet[h + 12] = ((20 + options.len()) / 4 * 16) as u8;
+        packet[h + 13] = flags;
+        packet[10..12].fill(0);
+        let checksum = !ones_complement_sum(&packet[..h]);
+        packet[10..12].copy_from_slice(&checksum.to_be_bytes());
+        crate::checksum::write_tcp_checksum(&mut packet);
+        packet
+    }
+
+    /// "19 malformed options on a SYN, after 10, offset of the bad option", counted
+    /// from the packet's first byte.
+    #[test]
+    fn malformed_options_of_a_packet() {
+        for (packet, h) in [(ONE_OCTET.to_vec(), 20), (with_options(), 24)] {
+            let read_with = |flags: u8, options: &[u8]| {
+                read(&with_tcp_options(packet.clone(), flags, options)).map(|segment| segment.offer)
+            };
+            for flags in [SYN, SYN | ACK] {
+                assert_eq!(read_with(flags, &[]), Ok(None));
+                assert_eq!(read_with(flags, &[2, 4, 5, 180, 1, 3, 3, 15]), Ok(Some(15)));
+                let refused = read_with(flags, &[1, 1, 8, 0]);
+                assert_eq!(refused, Err(refusal(19, h + 22)));
+                let mut options = [1; 40];
+                options[39] = 254;
+                assert_eq!(read_with(flags, &options), Err(refusal(19, h + 59)));
+                // 10 comes first.
+                let refused = read_with(flags | FIN, &[1, 1, 8, 0]);
+                assert_eq!(refused, Err(refusal(10, h + 13)));
+                // So does 16.
+                let mut changed = with_tcp_options(packet.clone(), flags, &[1, 1, 8, 0]);
+                changed[h as usize + 17] ^= 1;
+                assert_eq!(read(&changed), Err(refusal(16, h + 16)));
+            }
+            assert_eq!(read_with(ACK, &[1, 1, 8, 0]), Ok(None));
+            assert_eq!(read_with(ACK, &[1, 3, 3, 7]), Ok(None));
+        }
     }
 
     /// "Bytes past total length are ignored", also the one beside an odd octet.

@@ -10,7 +10,9 @@
 //! - 3: opener's end (4) and edge (4)
 //! - 4: opener's win (4), answerer's end (4)
 //! - 5: answerer's edge (4) and win (4)
-//! - 6 and 7: zeros
+//! - 6: opener's shift (1), answerer's (1), who offered one (1), zeros (5), by
+//!   document 02, item 8
+//! - 7: zeros
 
 use crate::connection::{Connection, End, ANSWERER, OPENER};
 
@@ -28,6 +30,8 @@ type Words = [u64; ENTRY / WORD];
 const DEADLINE: usize = 2;
 /// The byte of word 0 between FIN bits and address, "zero (1)".
 const ZERO_BYTE: u64 = 0x0000_00ff_0000_0000;
+/// The bytes of word 6 after both shifts and the offers, 51 to 55 of the entry.
+const ZEROS_AFTER_OFFERS: u64 = 0x0000_00ff_ffff_ffff;
 /// The opener's side and address in word 0.
 const SIDE_AND_ADDRESS: u64 = 0x00ff_0000_ffff_ffff;
 
@@ -79,6 +83,7 @@ impl Entry {
         ]
         .map(|[end, edge, win]| End { end, edge, win });
         let [stage, side, fins, ..] = words[0].to_be_bytes();
+        let [opener_shift, answerer_shift, offers, ..] = words[6].to_be_bytes();
         Entry {
             names: Names {
                 opener_address: low(words[0]),
@@ -92,6 +97,8 @@ impl Entry {
                 fins,
                 deadline: words[DEADLINE],
                 ends: [opener, answerer],
+                shifts: [opener_shift, answerer_shift],
+                offers,
             },
         }
     }
@@ -99,6 +106,7 @@ impl Entry {
     fn words(&self) -> Words {
         let held = &self.connection;
         let [opener, answerer] = held.ends;
+        let [opener_shift, answerer_shift] = held.shifts;
         let [side_and_address, rest] = self.names.key(held.side);
         [
             u64::from(held.stage) << 56 | u64::from(held.fins) << 40 | side_and_address,
@@ -107,7 +115,7 @@ impl Entry {
             pair(opener.end, opener.edge),
             pair(opener.win, answerer.end),
             pair(answerer.edge, answerer.win),
-            0,
+            u64::from_be_bytes([opener_shift, answerer_shift, held.offers, 0, 0, 0, 0, 0]),
             0,
         ]
     }
@@ -141,7 +149,7 @@ fn entry_is_sound(entry: &[u8], header_clock: u64) -> bool {
     // Stage 0 would be a free connection, but the entry is not one: some byte
     // of it is not zero.
     held.stage != 0
-        && words[0] & ZERO_BYTE | words[6] | words[7] == 0
+        && words[0] & ZERO_BYTE | words[6] & ZEROS_AFTER_OFFERS | words[7] == 0
         && held.is_sound(header_clock)
 }
 
@@ -269,7 +277,8 @@ mod tests {
         0, 0, 0, 0, 0x50, 0x51, 0x52, 0x53, // deadline
         0x60, 0x61, 0x62, 0x63, 0x60, 0x61, 0x63, 0x00, 0, 0, 0x66, 0x67, // opener
         0x70, 0x71, 0x72, 0x73, 0x70, 0x71, 0x73, 0x01, 0, 0, 0x76, 0x77, // answerer
-        0, 0, 0, 0, 0, 0, 0, 0, 0, 0, 0, 0, 0, 0, 0, 0,
+        0x0d, 0x0e, 3, // shifts and offers
+        0, 0, 0, 0, 0, 0, 0, 0, 0, 0, 0, 0, 0,
     ];
 
     fn decoded() -> Entry {
@@ -297,6 +306,8 @@ mod tests {
                         win: 0x7677,
                     },
                 ],
+                shifts: [13, 14],
+                offers: 3,
             },
         }
     }
@@ -387,13 +398,13 @@ mod tests {
         let records = [
             ([9, 9, 1], true),
             ([9, 9, 0], false),
-            ([9, 9, 65_535], true),
-            ([9, 9, 65_536], false),
+            ([9, 9, 1_073_725_440], true),
+            ([9, 9, 1_073_725_441], false),
             ([9, 8, 1], false),
-            ([9, 65_544, 1], true),
-            ([9, 65_545, 1], false),
-            ([u32::MAX, 65_534, 1], true),
-            ([u32::MAX, 65_535, 1], false),
+            ([9, 1_073_725_449, 1], true),
+            ([9, 1_073_725_450, 1], false),
+            ([u32::MAX, 1_073_725_439, 1], true),
+            ([u32::MAX, 1_073_725_440, 1], false),
             // What stage 1 asks of the answerer is allowed to either end.
             ([0, 0, 1], true),
         ];
@@ -401,6 +412,29 @@ mod tests {
             for (record, sound) in records {
                 compare(at, &record.map(u32::to_be_bytes).concat(), Some(sound));
             }
+        }
+    }
+
+    /// "shifts to 14, 0 where none was offered", and the zeros after the offers.
+    #[test]
+    fn every_scaling_byte() {
+        for at in 48..ENTRY {
+            for byte in 0..=255 {
+                let sound = is_sound_with(|entry| entry[at] = byte);
+                let fits = match at {
+                    48 | 49 => byte <= 14,
+                    50 => byte == 3,
+                    _ => byte == 0,
+                };
+                assert_eq!(sound, fits, "{at} {byte}");
+            }
+        }
+        // Byte 50 with shifts that fit, and the shift of one that offered none.
+        let scaling = |bytes: [u8; 3]| is_sound_with(|entry| entry[48..51].copy_from_slice(&bytes));
+        for offers in 0..=255 {
+            assert_eq!(scaling([0, 0, offers]), offers <= 3, "{offers}");
+            assert_eq!(scaling([1, 0, offers]), matches!(offers, 1 | 3), "{offers}");
+            assert_eq!(scaling([0, 1, offers]), matches!(offers, 2 | 3), "{offers}");
         }
     }
 

@@ -23,8 +23,8 @@ pub struct TraceRun {
 }
 
 /// What a line gave: the answer, and the place or offset. By document 02, items
-/// 2 and 5, the place of answers 5 to 10 and 16 is an offset in the packet: "all
-/// above hand it on, the program prints it".
+/// 2, 5 and 8, the place of answers 5 to 10, 16 and 19 is an offset in the packet:
+/// "all above hand it on, the program prints it".
 #[derive(Clone, Copy, Debug, PartialEq, Eq)]
 pub struct LineAnswer {
     pub answer: u32,
@@ -173,7 +173,7 @@ mod tests {
         assert_eq!(printed(EXAMPLE.trim_end().as_bytes()), expected);
     }
 
-    /// The example's first packet, refused by each of answers 5 to 10 and 16: the
+    /// The example's first packet, refused by each of answers 5 to 10, 16 and 19: the
     /// offset is printed, and `-` only for the others.
     #[test]
     fn refused_packets() {
@@ -232,6 +232,15 @@ mod tests {
             (
                 "4500002800000000400666ce0a0000010a000002040000500000006400000000500203e893430000",
                 "16 36",
+            ),
+            // Four bytes of options, the third kind 3 of length 1; the same with FIN.
+            (
+                "4500002c00000000400666ca0a0000010a000002040000500000006400000000600203e87f3e000001010301",
+                "19 42",
+            ),
+            (
+                "4500002c00000000400666ca0a0000010a000002040000500000006400000000600303e87f3d000001010301",
+                "10 33",
             ),
         ];
         for (packet, expected) in packets {

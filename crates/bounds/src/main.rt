@@ -1,17 +1,19 @@
 // Runs a script over one connection, which is free at first. Each line of the script is one of
 //   # TEXT                                        echo this line
-//   c STAGE SIDE FINS DEADLINE OEND OEDGE OWIN AEND AEDGE AWIN
-//                                                 hold this connection: the opener's record, then the answerer's
-//   o SIDE SEQ WINDOW CLOCK                       hold the connection that this SYN opens
-//   g SENDER FLAGS SEQ ACK WINDOW OCTETS CLOCK    decide on this segment, and hold what a pass leaves
-// with decimal numbers. o prints the ten fields of the connection as c has them; g prints 0 and the ten fields after a
-// pass, or else the verdict's number alone.
+//   c STAGE SIDE FINS DEADLINE OEND OEDGE OWIN AEND AEDGE AWIN OSHIFT ASHIFT OFFERS
+//                                                 hold this connection: the opener's record, then the answerer's; their shifts, and who offered one
+//   o SIDE SEQ WINDOW CLOCK OFFERED SHIFT         hold the connection that this SYN opens
+//   g SENDER FLAGS SEQ ACK WINDOW OCTETS CLOCK OFFERED SHIFT
+//                                                 decide on this segment, and hold what a pass leaves
+// with decimal numbers; one that is left out at the end is 0. o prints the thirteen fields of the connection as c has them; g prints 0 and the
+// thirteen fields after a pass, or else the verdict's number alone.
 ghost use Rattle.std.specs.Prelude.{◌≤◌, ◌<◌};
+ghost use Rattle.connection.specs.Scaling.{ShiftsFit};
 
 use connection::{Connection, End, Verdict};
 use libc::STDOUT_FILENO;
 use script::{Chunk, Input, Line, Output};
-use segment::Segment;
+use segment::{Offer, Segment};
 use serial::{OctetCount, SeqNum};
 
 // The held connection, and how much of the output is in use.
@@ -24,6 +26,10 @@ struct Bench {
 // The number in a line's field, with the bits that its type has.
 fn octet(line: &[u8], at: usize) -> u8 {
     (script::decimal_field(line, at) % 256) as u8
+}
+
+fn half_word(line: &[u8], at: usize) -> u16 {
+    (script::decimal_field(line, at) % 65536) as u16
 }
 
 fn word(line: &[u8], at: usize) -> u32 {
@@ -62,6 +68,16 @@ fn record(line: &[u8], at: usize) -> End
     }
 }
 
+// What two fields say that a SYN offers.
+fn offer(line: &[u8], at: usize) -> Offer
+    requires { at < 10 }
+{
+    Offer {
+        made: script::decimal_field(line, at) == 1,
+        shift: octet(line, at + 1),
+    }
+}
+
 // The connection of a c line.
 fn given(line: &[u8]) -> Connection {
     Connection {
@@ -70,6 +86,8 @@ fn given(line: &[u8]) -> Connection {
         fins: octet(line, 3),
         deadline: script::decimal_field(line, 4),
         ends: [record(line, 5), record(line, 8)],
+        shifts: [octet(line, 11), octet(line, 12)],
+        offers: octet(line, 13),
     }
 }
 
@@ -78,9 +96,10 @@ fn opened(line: &[u8]) -> Connection {
     let syn = Segment {
         seq: seq_num(line, 2),
         ack: SeqNum(0),
-        window: octet_count(line, 3),
+        window: half_word(line, 3),
         flags: 2,
         octets: OctetCount(1),
+        offer: offer(line, 5),
     };
     Connection::opened(octet(line, 1), syn, clock(line, 4))
 }
@@ -90,10 +109,15 @@ fn segment(line: &[u8]) -> Segment {
     Segment {
         seq: seq_num(line, 3),
         ack: seq_num(line, 4),
-        window: octet_count(line, 5),
+        window: half_word(line, 5),
         flags: octet(line, 2),
         octets: octet_count(line, 6),
+        offer: offer(line, 8),
     }
+}
+
+fn wide(shift: u8) -> u64 {
+    shift as u64
 }
 
 fn put_connection(out: &mut Output, used: usize, connection: Connection) -> usize
@@ -112,6 +136,9 @@ fn put_connection(out: &mut Output, used: usize, connection: Connection) -> usiz
         answerer.end.0 as u64,
         answerer.edge.0 as u64,
         answerer.win.0 as u64,
+        wide(connection.shifts[0]),
+        wide(connection.shifts[1]),
+        connection.offers as u64,
     ];
     script::put_fields(out, used, connection.stage as u64, &rest)
 }
@@ -146,12 +173,30 @@ fn pass(out: &mut Output, used: usize, after: Connection) -> Bench
     ended(out, end, after)
 }
 
+// A connection as a sound table has it, with shifts of at most 14.
+fn fitted(held: Connection) -> Connection
+    ensures { ShiftsFit result }
+{
+    let ends = held.ends;
+    let openers = held.shifts[0];
+    let answerers = held.shifts[1];
+    Connection {
+        stage: held.stage,
+        side: held.side,
+        fins: held.fins,
+        deadline: held.deadline,
+        ends: ends,
+        shifts: [openers % 15, answerers % 15],
+        offers: held.offers,
+    }
+}
+
 // The command g.
 fn judge(line: &[u8], out: &mut Output, used: usize, held: Connection) -> Bench
     requires { used ≤ 65536 }
     ensures { result.used ≤ 65536 }
 {
-    let decided = held.decide(sender(line), segment(line), clock(line, 7));
+    let decided = fitted(held).decide(sender(line), segment(line), clock(line, 7));
     let verdict = decided.verdict;
     let after = decided.connection;
     match verdict {

@@ -1,16 +1,17 @@
--- Resets on state K, by computation.
+-- Resets and offers on state K, by computation.
 use mathlib.Core.Path.{refl}
 use Rattle.choice.specs.Choice.{when◌then◌else◌}
 use Rattle.serial.specs.Ring.{wrap, ring_plus, ring_minus, nearest}
 use Rattle.serial.specs.Serial.{further}
+use Rattle.connection.specs.Scaling.{kept_shift, offer_bit, shift_in_force, effective_window}
 use Rattle.connection.specs.Ends.{sent, granted, ends_after}
 use Rattle.connection.specs.Ranges.{sequence_met, ack_met}
 use Rattle.connection.specs.Stages.{life_of, with_fin, fins_after, open_stage, stage_after}
-use Rattle.connection.specs.Decision.{same_syn, reply, verdict_unanswered, verdict_by_ranges, verdict_on, carried, reset, passed, decided}
-use Rattle.connection.specs.Examples.{ResetsGive}
+use Rattle.connection.specs.Decision.{same_syn, reply, verdict_unanswered, verdict_by_ranges, verdict_on, opened, repeated, answered, carried, reset, passed, decided}
+use Rattle.connection.specs.Examples.{ResetsGive, ScalingGives}
 
 pub resets-give : ResetsGive
-unfolding when◌then◌else◌ wrap ring_plus ring_minus nearest further sent granted ends_after sequence_met ack_met life_of with_fin fins_after open_stage stage_after same_syn reply verdict_unanswered verdict_by_ranges verdict_on carried reset passed decided
+unfolding when◌then◌else◌ wrap ring_plus ring_minus nearest further shift_in_force effective_window sent granted ends_after sequence_met ack_met life_of with_fin fins_after open_stage stage_after same_syn reply verdict_unanswered verdict_by_ranges verdict_on carried reset passed decided
 resets-give = record {
   in_2 = refl;
   in_3 = refl;
@@ -30,4 +31,27 @@ resets-give = record {
   to_5 = refl;
   to_5_by_fin = refl;
   in_1 = refl;
+}
+
+pub scaling-gives : ScalingGives
+unfolding when◌then◌else◌ wrap ring_plus ring_minus nearest further kept_shift offer_bit shift_in_force effective_window sent granted ends_after sequence_met ack_met life_of with_fin fins_after open_stage stage_after same_syn reply verdict_unanswered verdict_by_ranges verdict_on opened repeated answered carried reset passed decided
+scaling-gives = record {
+  openers = refl;
+  openers_capped = refl;
+  openers_none = refl;
+  both = refl;
+  answerers_capped = refl;
+  answerer_alone = refl;
+  opener_alone = refl;
+  syn_again = refl;
+  syn_later = refl;
+  syn_ack_later = refl;
+  openers_window = refl;
+  answerers_window = refl;
+  zero_window = refl;
+  alone_unscaled = refl;
+  openers_range = refl;
+  past_openers_range = refl;
+  answerers_range = refl;
+  past_answerers_range = refl;
 }

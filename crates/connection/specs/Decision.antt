@@ -4,7 +4,8 @@ use Rattle.choice.specs.Choice.{when◌then◌else◌, ◌≤ᵇ◌, ◌=ᵇ◌,
 use Rattle.serial.specs.Serial.{same_seq, seq_back}
 use Rattle.segment.specs.Flags.{is_reset, ack, SYN, SYN+ACK, ACK+RST}
 use Rattle.segment.specs.declared.Segment.{Segment}
-use Rattle.connection.specs.Ends.{count, opener, answerer, zeros, unheard, record_of, sender, receiver, granted, begun, widened, ends_after}
+use Rattle.connection.specs.Scaling.{kept_shift, offer_bit, with_answer, shift_of, shift_in_force, effective_window}
+use Rattle.connection.specs.Ends.{count, opener, answerer, zeros, unheard, record_of, sender, receiver, syn_window, granted, begun, widened, ends_after}
 use Rattle.connection.specs.Ranges.{sequence_met, ack_range, ack_met}
 use Rattle.connection.specs.Stages.{life_of, fins_after, stage_after}
 use Rattle.connection.specs.declared.Connection.{Connection}
@@ -32,7 +33,7 @@ verdict_unanswered c i g = when same_syn c i g || reply c i g then Pass else Not
 unfoldable pub verdict_by_ranges : Connection → ℕ → Segment → Verdict
 verdict_by_ranges c i g =
     when not (sequence_met (sender c.ends i) (receiver c.ends i) g) then SequenceMissed
-    else when (ack g.flags =ᵇ 1) && not (ack_met ack_range (receiver c.ends i) g) then AckMissed
+    else when (ack g.flags =ᵇ 1) && not (ack_met (ack_range (shift_in_force c i)) (receiver c.ends i) g) then AckMissed
     else Pass
 
 -- rows 13, 14, 15 and 0, for a segment of sender i
@@ -60,13 +61,23 @@ free = record {
   fins = 0;
   deadline = 0;
   ends = zeros ∷ zeros ∷ [];
+  shifts = 0 ∷ 0 ∷ [];
+  offers = 0;
 }
 
--- opening SYN: stage 1, FIN bits 0; opener end = edge = s + 1, win = max(w, 1); answerer 0, 0, 1
+-- opening SYN: stage 1, FIN bits 0; opener end = edge = s + 1, win = max(w, 1); answerer 0, 0, 1; the opener's offer
 unfoldable pub opened : ℕ → Segment → ℕ → Connection
-opened side g now = record { stage = 1; side = side; fins = 0; deadline = now + life_of 1; ends = begun g ∷ unheard ∷ [] }
+opened side g now = record {
+  stage = 1;
+  side = side;
+  fins = 0;
+  deadline = now + life_of 1;
+  ends = begun g ∷ unheard ∷ [];
+  shifts = kept_shift g.offer ∷ 0 ∷ [];
+  offers = offer_bit g.offer;
+}
 
--- the same SYN again: of the six numbers only the opener's win may change
+-- the same SYN again: of the six numbers only the opener's win may change, and "offers on a repeated SYN change nothing"
 unfoldable pub repeated : Connection → Segment → ℕ → Connection
 repeated c g now = record {
   stage = 1;
@@ -74,16 +85,21 @@ repeated c g now = record {
   fins = 0;
   deadline = now + life_of 1;
   ends = set c.ends opener (widened (opener_of c) g);
+  shifts = c.shifts;
+  offers = c.offers;
 }
 
--- SYN+ACK sets the answerer's end = edge = s + 1 and win = max(w, 1), raises the opener's edge, and gives stage 2
+-- SYN+ACK sets the answerer's end = edge = s + 1 and win = max(w, 1), raises the opener's edge, and gives stage 2; the answerer's offer is kept
+-- even where the opener made none
 unfoldable pub answered : Connection → Segment → ℕ → Connection
 answered c g now = record {
   stage = 2;
   side = c.side;
   fins = 0;
   deadline = now + life_of 2;
-  ends = granted (opener_of c) g ∷ begun g ∷ [];
+  ends = granted (opener_of c) g (syn_window g) ∷ begun g ∷ [];
+  shifts = shift_of c opener ∷ kept_shift g.offer ∷ [];
+  offers = with_answer c.offers g.offer;
 }
 
 -- from stage 2: what a pass writes, its sender's FIN bit, and the new stage with its life
@@ -93,7 +109,9 @@ carried c i g now = record {
   side = c.side;
   fins = fins_after c.fins i g.flags;
   deadline = now + life_of (stage_after c.stage (fins_after c.fins i g.flags) i g.flags);
-  ends = ends_after c.ends i g;
+  ends = ends_after c.ends i g (effective_window (shift_in_force c i) g);
+  shifts = c.shifts;
+  offers = c.offers;
 }
 
 -- from stage 2 on, a passed reset gives stage 6, and changes none of the six numbers and no FIN bit (document 02, item 6)
@@ -104,6 +122,8 @@ reset c now = record {
   fins = c.fins;
   deadline = now + life_of 6;
   ends = c.ends;
+  shifts = c.shifts;
+  offers = c.offers;
 }
 
 -- a passed RST resets from stage 2 on, and still frees in stage 1; else what passed in stage 1 is the opener's same SYN again or the

@@ -47,44 +47,44 @@ sender ends i = record_of ends i
 abbrev pub receiver : List End → ℕ → End
 receiver ends i = record_of ends (other_end i)
 
--- w, as it counts: unscaled today
-abbrev pub effective_window : Segment → OctetCount
-effective_window g = g.window
-
 -- s + n
 abbrev pub segment_end : Segment → SeqNum
 segment_end g = seq_plus g.seq g.octets
 
--- a + max(w, 1)
-abbrev pub right_edge : Segment → SeqNum
-right_edge g = seq_plus g.ack (larger (effective_window g) (count 1))
+-- a SYN's w: no shift bears on it (document 02, item 8)
+abbrev pub syn_window : Segment → OctetCount
+syn_window g = count g.window
+
+-- a + max(w, 1); here and below w is the window as it counts (`effective_window`)
+abbrev pub right_edge : Segment → OctetCount → SeqNum
+right_edge g w = seq_plus g.ack (larger w (count 1))
 
 -- F.end becomes the further of F.end and s + n; F.win the larger of F.win and w
-unfoldable pub sent : End → Segment → End
-sent F g = record {
+unfoldable pub sent : End → Segment → OctetCount → End
+sent F g w = record {
   end = further F.end F.end (segment_end g);
   edge = F.edge;
-  win = larger F.win (effective_window g);
+  win = larger F.win w;
 }
 
 -- the same SYN again makes win the larger of win and w and touches no other number
 abbrev pub widened : End → Segment → End
-widened F g = record { end = F.end; edge = F.edge; win = larger F.win (effective_window g) }
+widened F g = record { end = F.end; edge = F.edge; win = larger F.win (syn_window g) }
 
 -- T.edge becomes the further of T.edge and a + max(w, 1)
-unfoldable pub granted : End → Segment → End
-granted T g = record { end = T.end; edge = further T.end T.edge (right_edge g); win = T.win }
+unfoldable pub granted : End → Segment → OctetCount → End
+granted T g w = record { end = T.end; edge = further T.end T.edge (right_edge g w); win = T.win }
 
 -- both after a pass of sender i, from stage 2 on; without ACK, T is untouched
-unfoldable pub ends_after : List End → ℕ → Segment → List End
-ends_after ends i g =
-    when ack g.flags =ᵇ 1 then set (set ends i (sent (sender ends i) g)) (other_end i) (granted (receiver ends i) g)
-    else set ends i (sent (sender ends i) g)
+unfoldable pub ends_after : List End → ℕ → Segment → OctetCount → List End
+ends_after ends i g w =
+    when ack g.flags =ᵇ 1 then set (set ends i (sent (sender ends i) g w)) (other_end i) (granted (receiver ends i) g w)
+    else set ends i (sent (sender ends i) g w)
 
 -- an end that its SYN begins: end = edge = s + 1, win = max(w, 1)
 abbrev pub begun : Segment → End
 begun g = record {
   end = seq_plus g.seq (count 1);
   edge = seq_plus g.seq (count 1);
-  win = larger (effective_window g) (count 1);
+  win = larger (syn_window g) (count 1);
 }

@@ -1,3 +1,4 @@
+pub mod Scaling
 pub mod Ends
 pub mod Ranges
 pub mod Stages

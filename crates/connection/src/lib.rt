@@ -1,11 +1,12 @@
-// One connection by value: the decision on a segment of it, and what a pass leaves (document 01, "Ranges" and "Stages"; document 02, item 6).
+// One connection by value: the decision on a segment of it, and what a pass leaves (document 01, "Ranges" and "Stages"; document 02, items 6 and 8).
 ghost use Rattle.std.specs.Prelude.{◌≡◌, ◌^◌, ◌<◌, ◌≤◌};
-ghost use Rattle.connection.specs.Ends.{effective_window, sent, granted, begun, widened, ends_after};
+ghost use Rattle.connection.specs.Scaling.{kept_shift, offer_bit, with_answer, shift_in_force, ShiftsFit, effective_window};
+ghost use Rattle.connection.specs.Ends.{syn_window, sent, granted, begun, widened, ends_after};
 ghost use Rattle.connection.specs.Ranges.{sequence_met, ack_range, ack_met};
 ghost use Rattle.connection.specs.Stages.{longest_life, life_of, with_fin, fins_after, open_stage, stage_after};
 ghost use Rattle.connection.specs.Decision.{same_syn, reply, verdict_unanswered, verdict_by_ranges, verdict_on, verdict_number, answer_on, free, opened, repeated, answered, carried, reset, passed, decided};
 
-use segment::Segment;
+use segment::{Offer, Segment};
 use serial::{OctetCount, SeqNum};
 
 // What one end has shown, resets left out: document 01's record.
@@ -15,7 +16,7 @@ pub struct End {
     pub end: SeqNum,
     // The highest right edge that the other end granted it.
     pub edge: SeqNum,
-    // The largest window that it announced.
+    // The largest window that it announced, as it counts.
     pub win: OctetCount,
 }
 
@@ -30,6 +31,10 @@ pub struct Connection {
     pub deadline: u64,
     // The opener's record, then the answerer's.
     pub ends: [End; 2],
+    // The shift that each of them offered, at most 14; 0 where it offered none.
+    pub shifts: [u8; 2],
+    // Bit 0: the opener offered one; bit 1: the answerer did.
+    pub offers: u8,
 }
 
 #[derive(Drop)]
@@ -79,24 +84,68 @@ pub fn life(stage: u8) -> u64
     }
 }
 
-// Document 01's w, as it counts: unscaled today.
-fn effective_window(segment: Segment) -> OctetCount
-    ensures { result ≡ effective_window segment }
+// The shift that is kept of an offer: one above 14 counts as 14.
+fn kept_shift(offer: Offer) -> u8
+    ensures { result ≡ kept_shift offer }
 {
-    segment.window
+    let made = offer.made;
+    let shift = offer.shift;
+    if !made {
+        return 0;
+    }
+    match shift {
+        0..=14 => shift,
+        _ => 14,
+    }
+}
+
+// 1 for an offer made.
+fn offer_bit(offer: Offer) -> u8
+    ensures { (result ≡ offer_bit offer) × (result ≤ 1) }
+{
+    let made = offer.made;
+    match made {
+        true => 1,
+        false => 0,
+    }
+}
+
+// The answerer's bit beside the opener's.
+fn with_answer(offers: u8, offer: Offer) -> u8
+    ensures { result ≡ with_answer offers offer }
+{
+    offers % 2 + 2 * offer_bit(offer)
+}
+
+// A SYN's window, on which no shift bears.
+fn syn_window(segment: Segment) -> OctetCount
+    ensures { result ≡ syn_window segment }
+{
+    OctetCount(segment.window as u32)
+}
+
+// Document 01's w, as it counts under its sender's shift.
+fn effective_window(shift: u8, segment: Segment) -> OctetCount
+    requires { shift ≤ 14 }
+    ensures { result ≡ effective_window shift segment }
+{
+    let window = OctetCount(segment.window as u32);
+    match segment.has_syn() {
+        true => window,
+        false => window.scaled(shift),
+    }
 }
 
 impl End {
     // The sender's record after a segment of its own.
-    pub fn sent(self, segment: Segment) -> End
-        ensures { result ≡ sent self segment }
+    pub fn sent(self, segment: Segment, window: OctetCount) -> End
+        ensures { result ≡ sent self segment window }
     {
         let end = self.end;
         let edge = self.edge;
         let win = self.win;
         let seq = segment.seq;
         let octets = segment.octets;
-        let window = effective_window(segment);
         let far = end.further(end, seq.plus(octets));
         let largest = win.larger(window);
         End {
@@ -107,14 +156,13 @@ impl End {
     }
 
     // The record after an acknowledging segment of the other end.
-    pub fn granted(self, segment: Segment) -> End
-        ensures { result ≡ granted self segment }
+    pub fn granted(self, segment: Segment, window: OctetCount) -> End
+        ensures { result ≡ granted self segment window }
     {
         let end = self.end;
         let edge = self.edge;
         let win = self.win;
         let ack = segment.ack;
-        let window = effective_window(segment);
         let far = end.further(edge, ack.plus(window.larger(OctetCount(1))));
         End {
             end: end,
@@ -128,7 +176,7 @@ impl End {
         ensures { result ≡ begun segment }
     {
         let seq = segment.seq;
-        let window = effective_window(segment);
+        let window = syn_window(segment);
         let end = seq.plus(OctetCount(1));
         let win = window.larger(OctetCount(1));
         End {
@@ -145,7 +193,7 @@ impl End {
         let end = self.end;
         let edge = self.edge;
         let win = self.win;
-        let window = effective_window(segment);
+        let window = syn_window(segment);
         let most = win.larger(window);
         End {
             end: end,
@@ -168,14 +216,16 @@ fn sequence_met(from: End, to: End, segment: Segment) -> bool
     seq.minus(low).within(octets, edge.minus(low))
 }
 
-// Bounds III and IV.
-fn ack_met(to: End, segment: Segment) -> bool
-    ensures { result ≡ ack_met ack_range to segment }
+// Bounds III and IV, by the acknowledging end's shift.
+fn ack_met(shift: u8, to: End, segment: Segment) -> bool
+    requires { shift ≤ 14 }
+    ensures { result ≡ ack_met (ack_range shift) to segment }
 {
     let end = to.end;
     let ack = segment.ack;
     let behind = end.minus(ack);
-    behind.at_most(OctetCount(66_000))
+    let range = OctetCount(66_000);
+    behind.at_most(range.scaled(shift))
 }
 
 // The FIN bits with the sender's set: bit 0 the opener's, bit 1 the answerer's.
@@ -252,6 +302,8 @@ fn no_connection() -> Connection
         fins: 0,
         deadline: 0,
         ends: [zero, zero],
+        shifts: [0, 0],
+        offers: 0,
     }
 }
 
@@ -268,12 +320,17 @@ impl Connection {
             win: OctetCount(1),
         };
         let deadline = clock + life(1);
+        let offer = segment.offer;
+        let shift = kept_shift(offer);
+        let offers = offer_bit(offer);
         Connection {
             stage: 1,
             side: side,
             fins: 0,
             deadline: deadline,
             ends: [opener, answerer],
+            shifts: [shift, 0],
+            offers: offers,
         }
     }
 
@@ -329,9 +386,21 @@ impl Connection {
         Verdict::NotAllowed
     }
 
+    // The shift by which an end's windows count: none unless both offered one.
+    fn shift_in_force(self, end: usize) -> u8
+        requires { (end < 2) × ShiftsFit self }
+        ensures { (result ≡ shift_in_force self end) × (result ≤ 14) }
+    {
+        let offers = self.offers;
+        match offers {
+            3 => self.shifts[end],
+            _ => 0,
+        }
+    }
+
     // Rows 14, 15 and 0.
     fn ranges(self, sender: usize, segment: Segment) -> Verdict
-        requires { sender < 2 }
+        requires { (sender < 2) × ShiftsFit self }
         ensures { result ≡ verdict_by_ranges self sender segment }
     {
         let from = self.ends[sender];
@@ -342,7 +411,8 @@ impl Connection {
         if !segment.has_ack() {
             return Verdict::Pass;
         }
-        if !ack_met(to, segment) {
+        let shift = self.shift_in_force(sender);
+        if !ack_met(shift, to, segment) {
             return Verdict::AckMissed;
         }
         Verdict::Pass
@@ -350,7 +420,7 @@ impl Connection {
 
     // Rows 13 to 15 and 0.
     fn verdict(self, sender: usize, segment: Segment) -> Verdict
-        requires { sender < 2 }
+        requires { (sender < 2) × ShiftsFit self }
         ensures { (result ≡ verdict_on self sender segment) × (verdict_number result ≡ answer_on self sender segment) }
     {
         let stage = self.stage;
@@ -370,12 +440,16 @@ impl Connection {
         let mut ends = self.ends;
         ends[0] = opener.widened(segment);
         let deadline = clock + life(1);
+        let shifts = self.shifts;
+        let offers = self.offers;
         Connection {
             stage: 1,
             side: side,
             fins: 0,
             deadline: deadline,
             ends: ends,
+            shifts: shifts,
+            offers: offers,
         }
     }
 
@@ -386,51 +460,63 @@ impl Connection {
     {
         let side = self.side;
         let opener = self.ends[0];
-        let raised = opener.granted(segment);
+        let raised = opener.granted(segment, syn_window(segment));
         let answerer = End::begun(segment);
         let deadline = clock + life(2);
+        let first = self.shifts[0];
+        let offer = segment.offer;
+        let second = kept_shift(offer);
+        let offers = with_answer(self.offers, offer);
         Connection {
             stage: 2,
             side: side,
             fins: 0,
             deadline: deadline,
             ends: [raised, answerer],
+            shifts: [first, second],
+            offers: offers,
         }
     }
 
     // The two records after a segment from stage 2 on.
-    fn ends_after(self, sender: usize, segment: Segment) -> [End; 2]
+    fn ends_after(self, sender: usize, segment: Segment, window: OctetCount) -> [End; 2]
         requires { sender < 2 }
-        ensures { result ≡ ends_after self.ends sender segment }
+        ensures { result ≡ ends_after self.ends sender segment window }
     {
         let acks = segment.has_ack();
         let from = self.ends[sender];
         let to = self.ends[1 - sender];
         let mut ends = self.ends;
-        ends[sender] = from.sent(segment);
+        ends[sender] = from.sent(segment, window);
         if !acks {
             return ends;
         }
-        ends[1 - sender] = to.granted(segment);
+        ends[1 - sender] = to.granted(segment, window);
         ends
     }
 
     // After a segment from stage 2 on.
     fn carried(self, sender: usize, segment: Segment, clock: u64) -> Connection
-        requires { (sender < 2) × (clock < 2 ^ 48) }
+        requires { (sender < 2) × (clock < 2 ^ 48) × ShiftsFit self }
         ensures { result ≡ carried self sender segment clock }
     {
         let side = self.side;
         let fins = fins_after(self.fins, sender, segment);
         let stage = stage_after(self.stage, fins, sender, segment);
         let deadline = clock + life(stage);
-        let ends = self.ends_after(sender, segment);
+        let shift = self.shift_in_force(sender);
+        let window = effective_window(shift, segment);
+        let ends = self.ends_after(sender, segment, window);
+        let shifts = self.shifts;
+        let offers = self.offers;
         Connection {
             stage: stage,
             side: side,
             fins: fins,
             deadline: deadline,
             ends: ends,
+            shifts: shifts,
+            offers: offers,
         }
     }
 
@@ -442,6 +528,8 @@ impl Connection {
         let side = self.side;
         let fins = self.fins;
         let ends = self.ends;
+        let shifts = self.shifts;
+        let offers = self.offers;
         let expiry = clock + life(6);
         Connection {
             stage: 6,
@@ -449,12 +537,14 @@ impl Connection {
             fins: fins,
             deadline: expiry,
             ends: ends,
+            shifts: shifts,
+            offers: offers,
         }
     }
 
     // The connection that a pass at this clock used leaves; a reset in stage 1 frees it.
     fn passed(self, sender: usize, segment: Segment, clock: u64) -> Connection
-        requires { (sender < 2) × (clock < 2 ^ 48) }
+        requires { (sender < 2) × (clock < 2 ^ 48) × ShiftsFit self }
         ensures { result ≡ passed self sender segment clock }
     {
         let stage = self.stage;
@@ -475,7 +565,7 @@ impl Connection {
 
     // Rows 13 to 15 and 0 for a segment of the sender, 0 the opener or 1 the answerer, and the connection then.
     pub fn decide(self, sender: usize, segment: Segment, clock: u64) -> Decided
-        requires { (sender < 2) × (clock < 2 ^ 48) }
+        requires { (sender < 2) × (clock < 2 ^ 48) × ShiftsFit self }
         ensures { (result ≡ decided self sender segment clock) × (verdict_number result.verdict ≡ answer_on self sender segment) }
     {
         let verdict = self.verdict(sender, segment);

@@ -15,8 +15,9 @@ use Rattle.octets.specs.BigEndian.{big_endian, octets_of}
 use Rattle.address.specs.declared.Version.TheVariants.{V4}
 use Rattle.checksum.specs.Sum.{ones_plus, ones_sum}
 use Rattle.packet.specs.TcpSum.{tcp_sum}
+use Rattle.packet.specs.Options.{well_formed_option, offer_at, first_made, walk, option_rows}
 use Rattle.packet.specs.Read.{read_ipv4, rows6to8, ipv4_header, row10, tcp_rows}
-use Rattle.connection.specs.Sound.{sound_fins, sound_end, sound_unanswered, sound_connection}
+use Rattle.connection.specs.Sound.{sound_fins, sound_end, sound_unanswered, sound_shift, sound_offers, sound_answer, sound_connection}
 use Rattle.rows.specs.Rows as rows
 use Rattle.rows.specs.Rows.{Ask, View, Passed, filter, answer_of, place_by}
 use Rattle.rows.specs.Connections.{connections}
@@ -30,7 +31,7 @@ use Rattle.honest.specs.Machine.{asks}
 use Rattle.honest.specs.Marked.{after_ask, empty, packet1, packet2, after_syn, state_k, entry11, state11, Name, example, C, Case, marked_set, is_left, holds, all_hold}
 use Rattle.honest.proofs.Marked.{marked}
 use Rattle.demands.specs.Bytes.{SoundBytes, reading_of}
-use Rattle.demands.specs.Packets.{field_octets, octets_in, checksum_of, payload_of, ip_header, tcp_header, ip_checksum, tcp_checksum, packet_of, bytes_call}
+use Rattle.demands.specs.Packets.{field_octets, octets_in, checksum_of, payload_of, options, tcp_header_length, ip_header, tcp_header, ip_checksum, tcp_checksum, packet_of, bytes_call}
 use Rattle.demands.specs.Marked.{said_to, empty_bytes, after_syn_bytes, state_k_bytes, state11_bytes, bytes_before, OnBytes, AllOnBytes}
 use Rattle.demands.proofs.View.{view-after}
 use Rattle.demands.proofs.SoundAfter.{sound-after}
@@ -83,7 +84,7 @@ IsRead l = map (λ (c : Case). reading_of read_ipv4 (bytes_call c.call)) l ≡ m
 
 -- by computation, C11's 65,535 bytes among them
 all_read : Read packet1 × Read packet2 × IsRead marked_set
-unfolding when◌then◌else◌ wrap number digits big_endian octets_of ones_plus ones_sum rows6to8 ipv4_header row10 tcp_rows tcp_sum reading_of field_octets octets_in checksum_of payload_of ip_header tcp_header ip_checksum tcp_checksum packet_of
+unfolding when◌then◌else◌ wrap number digits big_endian octets_of ones_plus ones_sum rows6to8 ipv4_header row10 walk well_formed_option offer_at first_made option_rows tcp_rows tcp_sum reading_of field_octets octets_in checksum_of payload_of options tcp_header_length ip_header tcp_header ip_checksum tcp_checksum packet_of
 all_read = (refl, refl, refl)
 
 -- The tables
@@ -110,10 +111,14 @@ storable11 = record {
   two_ends = refl;
   opener_fits = record { end = omega arith; edge = omega arith; win = omega arith };
   answerer_fits = record { end = omega arith; edge = omega arith; win = omega arith };
+  two_shifts = refl;
+  opener_shift = omega arith;
+  answerer_shift = omega arith;
+  offers = omega arith;
 }
 
 sound11 : sound_connection 0 entry11.connection ≡ true
-unfolding when◌then◌else◌ ring_minus sound_fins sound_end sound_unanswered sound_connection
+unfolding when◌then◌else◌ ring_minus sound_fins sound_end sound_unanswered sound_shift sound_offers sound_answer sound_connection
 sound11 = refl
 
 -- over any bytes that are the empty table, so that no 4,160 bytes are computed

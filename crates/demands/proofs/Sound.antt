@@ -32,7 +32,7 @@ storable-connection_at : (v : Version) (t : List ℕ) (at : ℕ) → Octets t �
 unfolding entry_at connection_at
 storable-connection_at v t at octets =
     let storable = storable-entry_at v t at octets in
-    (sender (entry_at v t at).connection.ends, record { two = refl; opener = storable-fits storable.opener_fits; answerer = storable-fits storable.answerer_fits })
+    (sender (entry_at v t at).connection.ends, record { two = refl; opener = storable-fits storable.opener_fits; answerer = storable-fits storable.answerer_fits; two_shifts = refl })
 
 pub storable-view : (v : Version) (t : List ℕ) → SoundBytes v t → honest.TwoEndedView (table_of v t)
 storable-view v t s p inside = storable-connection_at v t (place_at v p) s.octets

@@ -7,7 +7,7 @@ use Rattle.address.specs.Address.{IsFlow}
 use Rattle.address.specs.declared.Version.{Version}
 use Rattle.connection.specs.Sound.{sound_connection, sound_end}
 use Rattle.connection.specs.declared.End.{End}
-use Rattle.connection.proofs.Sound.{sound_fins≤3, sound_end-true, sound-facts}
+use Rattle.connection.proofs.Sound.{sound_fins≤3, sound_end-true, sound_offers-true, shifts_fit, sound-facts}
 use Rattle.history.specs.Records.{SeqNumsFit}
 use Rattle.entry.specs.Storable.{StorableEnd, Storable}
 use Rattle.entry.specs.declared.Entry.{Entry}
@@ -32,4 +32,8 @@ storable-entry v now e sound small (x, ends) fits =
       two_ends = rw ends.two;
       opener_fits = rw ends.two (storable-end (x 0) ends.opener (rw ends.two at f.opener));
       answerer_fits = rw ends.two (storable-end (x 1) ends.answerer (rw ends.two at f.answerer));
+      two_shifts = ends.two_shifts;
+      opener_shift = omega (arith, shifts_fit e.connection f.offers 0 (omega arith));
+      answerer_shift = omega (arith, shifts_fit e.connection f.offers 1 (omega arith));
+      offers = omega (arith, (sound_offers-true _ _ _ f.offers).bits);
     }

@@ -23,7 +23,7 @@ pub record SoundBytes (v : Version) (t : List ℕ) : Type 0 where
   pub legal : legal_length v (length t) ≡ true
   pub sound : sound_table v t (places_in v t) ≡ true
 
--- what a call asks: the call's own list on such a table, where rows 3 and 4 say nothing; what rows 1, 2, 5 to 10 and 16 don't refuse is asked
+-- what a call asks: the call's own list on such a table, where rows 3 and 4 say nothing; what rows 1, 2, 5 to 10, 16 and 19 don't refuse is asked
 unfoldable pub reading_of : (List ℕ → PacketRead) → BytesCall → Reading Ask
 reading_of read q =
     rows1to4 refused q.side q.clock true true

@@ -9,7 +9,7 @@ use Rattle.packet.specs.declared.PacketRead.{PacketRead}
 use Rattle.rows.specs.Rows.{nowhere}
 use Rattle.entry.specs.Layout.{entry_size, place_at}
 use Rattle.table.specs.Table.{header_zeros_at, version_byte_at, version_byte}
-use Rattle.filter.specs.Call.{Outcome, places_in, outcome_of, reply_of, table_after}
+use Rattle.filter.specs.Call.{Outcome, places_in, outcome_of, CallAnswer, reply_of, table_after}
 use Rattle.honest.specs.Rules.{Event, Pair}
 use Rattle.honest.specs.Honest.{Legal, NeverBlocked, Demand3, Demand3AsWritten}
 use Rattle.honest.specs.Histories.{histories, in_numbers}
@@ -28,9 +28,9 @@ module _ (v : Version) where
     pub passed_length : (reply_of o).answer ≡ 0 → length (table_after v t o) ≡ length t
     pub passed_elsewhere : (reply_of o).answer ≡ 0 → (i : ℕ) → Elsewhere (reply_of o).place i → get_or (table_after v t o) i 0 ≡ get_or t i 0
     -- every other answer is one of the documents' and changes no byte
-    pub blocked_answer : ((reply_of o).answer ≡ 0 → ⊥) → (reply_of o).answer ≤ 16
+    pub blocked_answer : ((reply_of o).answer ≡ 0 → ⊥) → CallAnswer (reply_of o).answer
     pub blocked_keeps : ((reply_of o).answer ≡ 0 → ⊥) → table_after v t o ≡ t
-    -- 5 to 10 and 16 give the byte offset at which the packet broke (document 02, items 2 and 5): below the packet's length or, where bytes are
+    -- 5 to 10, 16 and 19 give the byte offset at which the packet broke (document 02, items 2, 5 and 8): below the packet's length or, where bytes are
     -- missing, at most it; every other refusal gives place 65,535
     pub broken_place : PacketAnswer (reply_of o).answer → BrokenAt read packet (reply_of o).answer (reply_of o).place
     pub blocked_place : ((reply_of o).answer ≡ 0 → ⊥) → (PacketAnswer (reply_of o).answer → ⊥) → (reply_of o).place ≡ nowhere

@@ -1,7 +1,9 @@
--- The packet of a call that asks something: IPv4 and TCP headers without options (RFC 791, 3.1; RFC 9293, 3.1), zeros for payload.
+-- The packet of a call that asks something: an IPv4 header without options and TCP's with window scaling where it is offered (RFC 791, 3.1; RFC
+-- 9293, 3.1; RFC 7323, 2.2), zeros for payload.
 use Rattle.std.specs.Prelude.{ℕ, ◌+◌, ◌*◌, ◌-◌, List, [], ◌∷◌, ◌++◌, replicate}
 use Rattle.octets.specs.BigEndian.{octets_of}
 use Rattle.octets.proofs.Octets.{Bytes, bytes-[], bytes-++, bytes-octets_of, bytes-replicate}
+use Rattle.choice.specs.Choice.{when◌then◌else◌}
 use Rattle.segment.specs.Flags.{fin, syn}
 use Rattle.address.specs.declared.Version.TheVariants.{V4}
 use Rattle.checksum.specs.Sum.{ones_sum}
@@ -33,32 +35,40 @@ module _ (a : Ask) where
   unfoldable pub payload_of : ℕ
   payload_of = a.segment.octets.0 - syn a.segment.flags - fin a.segment.flags
 
+  -- kind 3, length 3 and the shift, and an end of the options, which fills the word
+  unfoldable pub options : List Field
+  options = when a.segment.offer.made then u8 3 ∷ u8 3 ∷ u8 a.segment.offer.shift ∷ u8 0 ∷ [] else []
+
+  -- TCP's header, in bytes
+  unfoldable pub tcp_header_length : ℕ
+  tcp_header_length = when a.segment.offer.made then 24 else 20
+
   -- version 4 and 5 words of header, total length; no fragment; time to live 64, protocol 6, the checksum given; addresses
   unfoldable pub ip_header : ℕ → List Field
   ip_header checksum =
-      u8 0x45 ∷ u8 0 ∷ u16 (20 + 20 + payload_of)
+      u8 0x45 ∷ u8 0 ∷ u16 (20 + tcp_header_length + payload_of)
       ∷ u16 0 ∷ u16 0
       ∷ u8 64 ∷ u8 6 ∷ u16 checksum
       ∷ u32 a.key.from.address.low
       ∷ u32 a.key.to.address.low
       ∷ []
 
-  -- ports; numbers; 5 words of header, flags, window; the checksum given, no urgent pointer
+  -- ports; numbers; 5 or 6 words of header, flags, window; the checksum given, no urgent pointer; options
   unfoldable pub tcp_header : ℕ → List Field
   tcp_header checksum =
       u16 a.key.from.port ∷ u16 a.key.to.port
       ∷ u32 a.segment.seq.0
       ∷ u32 a.segment.ack.0
-      ∷ u8 (5 * 16) ∷ u8 a.segment.flags ∷ u16 a.segment.window.0
+      ∷ u8 (tcp_header_length * 4) ∷ u8 a.segment.flags ∷ u16 a.segment.window
       ∷ u16 checksum ∷ u16 0
-      ∷ []
+      ∷ options
 
   -- each checksum is taken over its header with a zero in its place, TCP's with the pseudo-header before it; a payload of zeros adds nothing
   unfoldable pub ip_checksum : ℕ
   ip_checksum = checksum_of (octets_in (ip_header 0))
 
   unfoldable pub tcp_checksum : ℕ
-  tcp_checksum = checksum_of (pseudo_header V4 a.key (20 + payload_of) ++ octets_in (tcp_header 0))
+  tcp_checksum = checksum_of (pseudo_header V4 a.key (tcp_header_length + payload_of) ++ octets_in (tcp_header 0))
 
   unfoldable pub packet_of : List ℕ
   packet_of = octets_in (ip_header ip_checksum ++ tcp_header tcp_checksum) ++ replicate payload_of 0

@@ -12,14 +12,17 @@ use Rattle.address.specs.Address.{address_size, address_at, endpoint_at}
 use Rattle.address.specs.declared.Version.{Version}
 use Rattle.address.proofs.Laws.{address_at-agree}
 use Rattle.connection.specs.Ends.{count, seq_num}
-use Rattle.entry.specs.Layout.{rest_size, blank_at, addresses_at, ports_at, numbers_at, rest_at, entry_size, end_at, connection_at, entry_at}
+use Rattle.entry.specs.Layout.{rest_size, blank_at, addresses_at, ports_at, numbers_at, scaling_at, rest_at, entry_size, end_at, connection_at, entry_at}
 
--- zero bytes zero: the one after the FIN bits, and the last 16 or 24
+-- zero bytes zero: the one after the FIN bits, and the last 13 or 21
 pub record ZeroBytes (v : Version) (t : List ℕ) (at : ℕ) : Type 0 where
   pub after-fins : get_or t (blank_at at) 0 ≡ 0
   pub last : (i : ℕ) → i < rest_size v → get_or t (rest_at v at + i) 0 ≡ 0
 
 module _ (v : Version) (l : List ℕ) (at : ℕ) (m : List ℕ) (there : ℕ) (same : Agree l at m there (entry_size v)) where
+  octet-agree : (k p q : ℕ) → at + k ≡ p → there + k ≡ q → k < entry_size v → get_or l p 0 ≡ get_or m q 0
+  octet-agree k p q here there' inside = rw (here, there') at (same k inside)
+
   number-agree : (n k p q : ℕ) → at + k ≡ p → there + k ≡ q → k + n ≤ entry_size v → big_endian n l p ≡ big_endian n m q
   number-agree n k p q here there' inside =
       ap (big_endian n l) (sym here)
@@ -39,7 +42,7 @@ module _ (v : Version) (l : List ℕ) (at : ℕ) (m : List ℕ) (there : ℕ) (s
       let win = number-agree 4 (k + 8) (p + 8) (q + 8) (omega arith) (omega arith) (omega arith) in
       λ i. record { end = seq_num (end i); edge = seq_num (edge i); win = count (win i) }
 
-  connection-agree : connection_at l at (numbers_at v at) ≡ connection_at m there (numbers_at v there)
+  connection-agree : connection_at l at (numbers_at v at) (scaling_at v at) ≡ connection_at m there (numbers_at v there) (scaling_at v there)
   unfolding connection_at
   connection-agree =
       let stage : get_or l at 0 ≡ get_or m there 0 = simp add-zero at (same 0 (omega arith)) in
@@ -51,7 +54,21 @@ module _ (v : Version) (l : List ℕ) (at : ℕ) (m : List ℕ) (there : ℕ) (s
       let deadline = number-agree 8 n p q (omega arith) (omega arith) (omega arith) in
       let opener = end-agree (n + 8) (p + 8) (q + 8) (omega arith) (omega arith) (omega arith) in
       let answerer = end-agree (n + 20) (p + 20) (q + 20) (omega arith) (omega arith) (omega arith) in
-      λ i. record { stage = stage i; side = side i; fins = fins i; deadline = deadline i; ends = opener i ∷ answerer i ∷ [] }
+      let s = scaling_at v 0 in
+      let x = scaling_at v at in
+      let y = scaling_at v there in
+      let first = octet-agree s x y (omega arith) (omega arith) (omega arith) in
+      let second = octet-agree (s + 1) (x + 1) (y + 1) (omega arith) (omega arith) (omega arith) in
+      let offers = octet-agree (s + 2) (x + 2) (y + 2) (omega arith) (omega arith) (omega arith) in
+      λ i. record {
+        stage = stage i;
+        side = side i;
+        fins = fins i;
+        deadline = deadline i;
+        ends = opener i ∷ answerer i ∷ [];
+        shifts = first i ∷ second i ∷ [];
+        offers = offers i;
+      }
 
   endpoint-agree :
       (k p q : ℕ) → at + k ≡ p → there + k ≡ q → k + address_size v ≤ entry_size v →
@@ -81,7 +98,4 @@ module _ (v : Version) (l : List ℕ) (at : ℕ) (m : List ℕ) (there : ℕ) (s
   }
     where
       rest : (i : ℕ) → i < rest_size v → get_or l (rest_at v at + i) 0 ≡ get_or m (rest_at v there + i) 0
-      rest i h =
-          let p : at + (rest_at v 0 + i) ≡ rest_at v at + i = omega arith in
-          let q : there + (rest_at v 0 + i) ≡ rest_at v there + i = omega arith in
-          rw (p, q) at (same (rest_at v 0 + i) (omega arith))
+      rest i h = octet-agree (rest_at v 0 + i) (rest_at v at + i) (rest_at v there + i) (omega arith) (omega arith) (omega arith)

@@ -17,8 +17,8 @@ use Rattle.address.proofs.Laws.{fits-flow_at, bytes-address_octets}
 use Rattle.connection.specs.Ends.{sender}
 use Rattle.connection.specs.declared.Connection.{Connection}
 use Rattle.connection.specs.declared.End.{End}
-use Rattle.entry.specs.Layout.{rest_size, addresses_at, ports_at, numbers_at, rest_at, end_at, connection_at, entry_at}
-use Rattle.entry.specs.Layout.{end_bytes, marks_bytes, flow_bytes, numbers_bytes, entry_bytes}
+use Rattle.entry.specs.Layout.{rest_size, addresses_at, ports_at, numbers_at, scaling_at, rest_at, end_at, connection_at, entry_at}
+use Rattle.entry.specs.Layout.{end_bytes, marks_bytes, flow_bytes, numbers_bytes, scaling_bytes, entry_bytes}
 use Rattle.entry.specs.Storable.{StorableEnd, Storable}
 use Rattle.entry.specs.declared.Entry.{Entry}
 use Rattle.entry.proofs.Agree.{ZeroBytes}
@@ -43,6 +43,10 @@ storable-entry_at v t at octets = record {
   two_ends = refl;
   opener_fits = storable-end_at t (numbers_at v at + 8) octets;
   answerer_fits = storable-end_at t (numbers_at v at + 20) octets;
+  two_shifts = refl;
+  opener_shift = octets (scaling_at v at);
+  answerer_shift = octets (scaling_at v at + 1);
+  offers = octets (scaling_at v at + 2);
 }
 
 -- Stored
@@ -60,6 +64,10 @@ unfolding numbers_bytes
 bytes-numbers_bytes c =
     bytes-++ (bytes-octets_of 8 c.deadline) (bytes-++ (bytes-end_bytes (sender c.ends 0)) (bytes-end_bytes (sender c.ends 1)))
 
+bytes-scaling_bytes : (v : Version) (e : Entry) → Storable v e → Bytes (scaling_bytes e.connection)
+unfolding scaling_bytes
+bytes-scaling_bytes v e storable = bytes-∷ storable.opener_shift (bytes-∷ storable.answerer_shift (bytes-∷ storable.offers bytes-[]))
+
 bytes-flow_bytes : (v : Version) (k : Flow) → Bytes (flow_bytes v k)
 unfolding flow_bytes
 bytes-flow_bytes v k =
@@ -70,14 +78,15 @@ bytes-entry_bytes : (v : Version) (e : Entry) → Storable v e → Bytes (entry_
 unfolding entry_bytes
 bytes-entry_bytes v e storable =
     bytes-++ (bytes-marks_bytes v e storable)
-    (bytes-++ (bytes-flow_bytes v e.key) (bytes-++ (bytes-numbers_bytes e.connection) (bytes-replicate (rest_size v))))
+    (bytes-++ (bytes-flow_bytes v e.key) (bytes-++ (bytes-numbers_bytes e.connection)
+    (bytes-++ (bytes-scaling_bytes v e storable) (bytes-replicate (rest_size v)))))
 
 pub octets-entry_bytes : (v : Version) (e : Entry) → Storable v e → Octets (entry_bytes v e)
 octets-entry_bytes v e storable = (bytes-entry_bytes v e storable).small
 
 -- its zero bytes are zero
 pub zero_bytes-entry_bytes : (v : Version) (e : Entry) → ZeroBytes v (entry_bytes v e) 0
-unfolding entry_bytes marks_bytes flow_bytes numbers_bytes end_bytes octets_of digits
+unfolding entry_bytes marks_bytes flow_bytes numbers_bytes scaling_bytes end_bytes octets_of digits
 zero_bytes-entry_bytes V4 e =
     record { after-fins = refl; last = λ i h. sym (get_or-drop (rest_at V4 0) (entry_bytes V4 e) i 0) ∙ get_or-replicate (rest_size V4) i 0 0 h }
 zero_bytes-entry_bytes V6 e =

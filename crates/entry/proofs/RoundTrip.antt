@@ -17,10 +17,12 @@ use Rattle.address.specs.declared.Version.{Version}
 use Rattle.address.specs.declared.Version.TheVariants.{V4, V6}
 use Rattle.address.specs.declared.Endpoint.{Endpoint}
 use Rattle.address.proofs.Laws.{address_at-octets, octets-address_at}
-use Rattle.connection.specs.Ends.{sender, seq_num, count}
+use Rattle.connection.specs.Ends.{sender, seq_num, count, zeros}
+use Rattle.connection.specs.Scaling.{shift_of}
+use Rattle.connection.specs.declared.Connection.{Connection}
 use Rattle.connection.specs.declared.End.{End}
-use Rattle.entry.specs.Layout.{rest_size, blank_at, addresses_at, ports_at, numbers_at, rest_at, entry_size, end_at, connection_at, entry_at}
-use Rattle.entry.specs.Layout.{end_bytes, marks_bytes, flow_bytes, numbers_bytes, entry_bytes}
+use Rattle.entry.specs.Layout.{rest_size, blank_at, addresses_at, ports_at, numbers_at, scaling_at, rest_at, entry_size, end_at, connection_at, entry_at}
+use Rattle.entry.specs.Layout.{end_bytes, marks_bytes, flow_bytes, numbers_bytes, scaling_bytes, entry_bytes}
 use Rattle.entry.specs.RoundTrip.{StoredIsRead, FreeIsZeros}
 use Rattle.entry.specs.Storable.{StorableEnd, Storable}
 use Rattle.entry.specs.declared.Entry.{Entry}
@@ -29,11 +31,11 @@ use Rattle.entry.proofs.Agree.{ZeroBytes, entry_at-agree}
 
 -- Reading what was written
 
-two-elements : (ends : List End) → length ends ≡ 2 → sender ends 0 ∷ sender ends 1 ∷ [] ≡ ends
-two-elements [] two = absurd (omega (arith, two))
-two-elements (x ∷ []) two = absurd (omega (arith, two))
-two-elements (x ∷ y ∷ []) two = refl
-two-elements (x ∷ y ∷ z ∷ more) two = absurd (omega (arith, two))
+two-elements : {A : Type 0} (none : A) (l : List A) → length l ≡ 2 → get_or l 0 none ∷ get_or l 1 none ∷ [] ≡ l
+two-elements none [] two = absurd (omega (arith, two))
+two-elements none (x ∷ []) two = absurd (omega (arith, two))
+two-elements none (x ∷ y ∷ []) two = refl
+two-elements none (x ∷ y ∷ z ∷ more) two = absurd (omega (arith, two))
 
 -- a number, a record, an endpoint and an entry, as they are read in the octets that are written of them
 abbrev number_again : ℕ → ℕ → ℕ
@@ -58,12 +60,14 @@ entry_again v e = record {
     fins = e.connection.fins;
     deadline = number_again 8 e.connection.deadline;
     ends = end_again (sender e.connection.ends 0) ∷ end_again (sender e.connection.ends 1) ∷ [];
+    shifts = shift_of e.connection 0 ∷ shift_of e.connection 1 ∷ [];
+    offers = e.connection.offers;
   };
 }
 
 -- each field stands where it is looked for: by computing, in each layout
 entry-again : (v : Version) (e : Entry) → entry_at v (entry_bytes v e) 0 ≡ entry_again v e
-unfolding entry_at connection_at big_endian number entry_bytes marks_bytes flow_bytes numbers_bytes end_bytes octets_of digits
+unfolding entry_at connection_at big_endian number entry_bytes marks_bytes flow_bytes numbers_bytes scaling_bytes end_bytes octets_of digits
 entry-again V4 e = refl
 entry-again V6 e = refl
 
@@ -91,10 +95,19 @@ entry-back v e storable =
     let opener = end_back (sender c.ends 0) storable.opener_fits in
     let answerer = end_back (sender c.ends 1) storable.answerer_fits in
     let ends : end_again (sender c.ends 0) ∷ end_again (sender c.ends 1) ∷ [] ≡ c.ends =
-    (λ i. opener i ∷ answerer i ∷ []) ∙ two-elements c.ends storable.two_ends in
+    (λ i. opener i ∷ answerer i ∷ []) ∙ two-elements zeros c.ends storable.two_ends in
+    let shifts = two-elements 0 c.shifts storable.two_shifts in
     λ i. record {
       key = record { from = from i; to = to i };
-      connection = record { stage = c.stage; side = c.side; fins = c.fins; deadline = deadline i; ends = ends i };
+      connection = record {
+        stage = c.stage;
+        side = c.side;
+        fins = c.fins;
+        deadline = deadline i;
+        ends = ends i;
+        shifts = shifts i;
+        offers = c.offers;
+      };
     }
 
 -- what is stored is read back
@@ -118,7 +131,10 @@ end-part t at fits octets =
 
 -- an entry whose zero bytes are zero re-encodes to its bytes
 module _ (v : Version) (t : List ℕ) (at : ℕ) (fits : at + entry_size v ≤ length t) (octets : Octets t) where
-  numbers-part : numbers_bytes (connection_at t at (numbers_at v at)) ≡ take 32 (drop (numbers_at v at) t)
+  abbrev here : Connection
+  here = connection_at t at (numbers_at v at) (scaling_at v at)
+
+  numbers-part : numbers_bytes here ≡ take 32 (drop (numbers_at v at) t)
   unfolding numbers_bytes connection_at
   numbers-part =
       let n = numbers_at v at in
@@ -143,7 +159,7 @@ module _ (v : Version) (t : List ℕ) (at : ℕ) (fits : at + entry_size v ≤ l
       let rest = part-append t (address_size v) 4 next (ports_at v at) _ _ refl answerer ports in
       part-append t (address_size v) (address_size v + 4) first next _ _ refl opener rest
 
-  marks-part : get_or t (blank_at at) 0 ≡ 0 → marks_bytes (connection_at t at (numbers_at v at)) ≡ take 4 (drop at t)
+  marks-part : get_or t (blank_at at) 0 ≡ 0 → marks_bytes here ≡ take 4 (drop at t)
   unfolding marks_bytes connection_at
   marks-part none =
       let stage = octet-part t at (omega arith) in
@@ -152,6 +168,15 @@ module _ (v : Version) (t : List ℕ) (at : ℕ) (fits : at + entry_size v ≤ l
       let blank = ap (λ (k : ℕ). k ∷ []) (sym none) ∙ octet-part t (blank_at at) (omega arith) in
       let two = part-append t 1 1 (at + 2) (blank_at at) _ _ (omega arith) fins blank in
       part-append t 1 3 at (at + 1) _ _ refl stage (part-append t 1 2 (at + 1) (at + 2) _ _ (omega arith) side two)
+
+  scaling-part : scaling_bytes here ≡ take 3 (drop (scaling_at v at) t)
+  unfolding scaling_bytes connection_at
+  scaling-part =
+      let s = scaling_at v at in
+      let first = octet-part t s (omega arith) in
+      let second = octet-part t (s + 1) (omega arith) in
+      let offers = octet-part t (s + 2) (omega arith) in
+      part-append t 1 2 s (s + 1) _ _ refl first (part-append t 1 1 (s + 1) (s + 2) _ _ (omega arith) second offers)
 
   rest_part : ZeroBytes v t at → replicate (rest_size v) 0 ≡ take (rest_size v) (drop (rest_at v at) t)
   rest_part none =
@@ -166,9 +191,11 @@ module _ (v : Version) (t : List ℕ) (at : ℕ) (fits : at + entry_size v ≤ l
   unfolding entry_bytes entry_at
   store-loaded none =
       let flow = address_size v + (address_size v + 4) in
-      let end = 32 + rest_size v in
+      let last = 3 + rest_size v in
+      let end = 32 + last in
       let size : 4 + (flow + end) ≡ entry_size v = omega arith in
-      let rest = part-append t 32 (rest_size v) (numbers_at v at) (rest_at v at) _ _ refl numbers-part (rest_part none) in
+      let scaling = part-append t 3 (rest_size v) (scaling_at v at) (rest_at v at) _ _ refl scaling-part (rest_part none) in
+      let rest = part-append t 32 last (numbers_at v at) (scaling_at v at) _ _ refl numbers-part scaling in
       let tail = part-append t flow end (addresses_at at) (numbers_at v at) _ _ (omega arith) flow-part rest in
       part-append t 4 (flow + end) at (addresses_at at) _ _ refl (marks-part none.after-fins) tail
       ∙ ap (λ (n : ℕ). take n (drop at t)) size
@@ -176,6 +203,6 @@ module _ (v : Version) (t : List ℕ) (at : ℕ) (fits : at + entry_size v ≤ l
 -- The free entry
 
 pub free-is-zeros : FreeIsZeros
-unfolding entry_bytes marks_bytes flow_bytes numbers_bytes end_bytes octets_of digits
+unfolding entry_bytes marks_bytes flow_bytes numbers_bytes scaling_bytes end_bytes octets_of digits
 free-is-zeros V4 = refl
 free-is-zeros V6 = refl

@@ -6,6 +6,7 @@ use Rattle.address.specs.declared.Version.{Version}
 use Rattle.address.specs.declared.Version.TheVariants.{V4, V6}
 use Rattle.address.specs.declared.Flow.{Flow}
 use Rattle.connection.specs.Ends.{count, seq_num, opener, answerer, record_of}
+use Rattle.connection.specs.Scaling.{shift_of}
 use Rattle.connection.specs.declared.Connection.{Connection}
 use Rattle.connection.specs.declared.End.{End}
 use Rattle.entry.specs.declared.Entry.{Entry}
@@ -13,7 +14,8 @@ use Rattle.entry.specs.declared.Entry.{Entry}
 abbrev pub header_size : ℕ
 header_size = 64
 
--- the parts of the entry at an offset: its zero byte, then where its addresses begin, its ports, its numbers, and the zeros that end it
+-- the parts of the entry at an offset: its zero byte, then where its addresses begin, its ports, its numbers, its shifts and who offered one
+-- (document 02, item 8), and the zeros that end it
 abbrev pub blank_at : ℕ → ℕ
 blank_at at = at + 3
 
@@ -26,13 +28,19 @@ ports_at v at = addresses_at at + address_size v + address_size v
 abbrev pub numbers_at : Version → ℕ → ℕ
 numbers_at v at = ports_at v at + 4
 
-abbrev pub rest_at : Version → ℕ → ℕ
-rest_at v at = numbers_at v at + 32
+abbrev pub scaling_at : Version → ℕ → ℕ
+scaling_at v at = numbers_at v at + 32
 
--- zeros that end an entry
+abbrev pub rest_at : Version → ℕ → ℕ
+rest_at v at = scaling_at v at + 3
+
+-- zeros that end an entry, 13 or 21: one that fills a word, and whole words
+abbrev pub words_size : Version → ℕ
+words_size V4 = 12
+words_size V6 = 20
+
 abbrev pub rest_size : Version → ℕ
-rest_size V4 = 16
-rest_size V6 = 24
+rest_size v = 1 + words_size v
 
 -- 64 or 96
 abbrev pub entry_size : Version → ℕ
@@ -62,30 +70,37 @@ end_bytes e = octets_of 4 e.end.0 ++ (octets_of 4 e.edge.0 ++ octets_of 4 e.win.
 unfoldable pub numbers_bytes : Connection → List ℕ
 numbers_bytes c = octets_of 8 c.deadline ++ (end_bytes (record_of c.ends opener) ++ end_bytes (record_of c.ends answerer))
 
--- marks, addresses and ports, numbers, then 16 or 24 zeros
+-- "the two shifts, opener's first, and .. who offered one"
+unfoldable pub scaling_bytes : Connection → List ℕ
+scaling_bytes c = shift_of c opener ∷ shift_of c answerer ∷ c.offers ∷ []
+
+-- marks, addresses and ports, numbers, shifts and offers, then 13 or 21 zeros
 unfoldable pub entry_bytes : Version → Entry → List ℕ
 entry_bytes v e =
     marks_bytes e.connection
-    ++ (flow_bytes v e.key ++ (numbers_bytes e.connection ++ replicate (rest_size v) 0))
+    ++ (flow_bytes v e.key ++ (numbers_bytes e.connection ++ (scaling_bytes e.connection ++ replicate (rest_size v) 0)))
 
 -- What they are read as
 
 abbrev pub end_at : List ℕ → ℕ → End
 end_at t at = record { end = seq_num (big_endian 4 t at); edge = seq_num (big_endian 4 t (at + 4)); win = count (big_endian 4 t (at + 8)) }
 
--- stage, opener's side, FIN bits; where the numbers begin: deadline, then the opener's record and the answerer's
-unfoldable pub connection_at : List ℕ → ℕ → ℕ → Connection
-connection_at t at numbers = record {
+-- stage, opener's side, FIN bits; where the numbers begin: deadline, then the opener's record and the answerer's; and where the scaling does:
+-- the opener's shift and the answerer's, then the offers
+unfoldable pub connection_at : List ℕ → (at numbers scaling : ℕ) → Connection
+connection_at t at numbers scaling = record {
   stage = get_or t at 0;
   side = get_or t (at + 1) 0;
   fins = get_or t (at + 2) 0;
   deadline = big_endian 8 t numbers;
   ends = end_at t (numbers + 8) ∷ end_at t (numbers + 20) ∷ [];
+  shifts = get_or t scaling 0 ∷ get_or t (scaling + 1) 0 ∷ [];
+  offers = get_or t (scaling + 2) 0;
 }
 
 -- the entry whose bytes begin at an offset
 unfoldable pub entry_at : Version → List ℕ → ℕ → Entry
 entry_at v t at = record {
   key = flow_at v t (addresses_at at) (ports_at v at);
-  connection = connection_at t at (numbers_at v at);
+  connection = connection_at t at (numbers_at v at) (scaling_at v at);
 }

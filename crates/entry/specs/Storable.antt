@@ -3,6 +3,7 @@ use Rattle.std.specs.Prelude.{◌^◌, ◌<◌, ◌≡◌, length}
 use Rattle.address.specs.Address.{IsFlow}
 use Rattle.address.specs.declared.Version.{Version}
 use Rattle.connection.specs.Ends.{opener, answerer, record_of}
+use Rattle.connection.specs.Scaling.{shift_of}
 use Rattle.connection.specs.declared.End.{End}
 use Rattle.entry.specs.declared.Entry.{Entry}
 
@@ -20,3 +21,7 @@ pub record Storable (v : Version) (e : Entry) : Type 0 where
   pub two_ends : length e.connection.ends ≡ 2
   pub opener_fits : StorableEnd (record_of e.connection.ends opener)
   pub answerer_fits : StorableEnd (record_of e.connection.ends answerer)
+  pub two_shifts : length e.connection.shifts ≡ 2
+  pub opener_shift : shift_of e.connection opener < 2 ^ 8
+  pub answerer_shift : shift_of e.connection answerer < 2 ^ 8
+  pub offers : e.connection.offers < 2 ^ 8

@@ -1,10 +1,10 @@
-// One entry of the table by value: loaded from its place in lent bytes, and stored there (document 01, "The table"), in the layout of
-// either IP version.
-ghost use Rattle.std.specs.Prelude.{◌≡◌, ◌+◌, ◌^◌, ◌≤◌, ◌<◌, length, replicate};
+// One entry of the table by value: loaded from its place in lent bytes, and stored there (document 01, "The table", and document 02, item 8),
+// in the layout of either IP version.
+ghost use Rattle.std.specs.Prelude.{◌≡◌, ◌+◌, ◌^◌, ◌≤◌, ◌<◌, ◌++◌, length, replicate};
 ghost use Rattle.octets.specs.Overwrite.{overwrite};
 ghost use Rattle.address.specs.Address.{address_size};
-ghost use Rattle.entry.specs.Layout.{addresses_at, ports_at, numbers_at, rest_at, rest_size, entry_size, place_at};
-ghost use Rattle.entry.specs.Layout.{marks_bytes, flow_bytes, end_bytes, numbers_bytes, entry_bytes, end_at, connection_at, entry_at};
+ghost use Rattle.entry.specs.Layout.{addresses_at, ports_at, numbers_at, scaling_at, words_size, rest_size, entry_size, place_at};
+ghost use Rattle.entry.specs.Layout.{marks_bytes, flow_bytes, end_bytes, numbers_bytes, scaling_bytes, entry_bytes, end_at, connection_at, entry_at};
 
 use address::{Flow, Version, address_size, read_flow, write_address};
 use connection::{Connection, End};
@@ -38,6 +38,16 @@ pub const ANSWERER: usize = 20;
 const EDGE: usize = 4;
 
 const WIN: usize = 8;
+
+// Then the opener's shift and the answerer's, who offered one, and the first of the zeros that end it: a word.
+const ANSWERER_SHIFT: usize = 1;
+
+pub const OFFERS: usize = 2;
+
+const FIRST_ZERO: usize = 3;
+
+// The other zeros are whole words.
+pub const WORDS: usize = 4;
 
 pub fn entry_size(version: Version) -> usize
     ensures { result ≡ entry_size version }
@@ -80,10 +90,10 @@ pub fn numbers_at(version: Version, at: usize) -> usize
     ports_at(version, at) + 4
 }
 
-// The zeros that end it.
-pub fn rest_at(version: Version, at: usize) -> usize
-    requires { rest_at version at < 2 ^ 64 }
-    ensures { result ≡ rest_at version at }
+// Its shifts and who offered one, and the zeros after them.
+pub fn scaling_at(version: Version, at: usize) -> usize
+    requires { scaling_at version at < 2 ^ 64 }
+    ensures { result ≡ scaling_at version at }
 {
     numbers_at(version, at) + 32
 }
@@ -105,10 +115,10 @@ pub fn load_end(table: &[u8], at: usize) -> End
     }
 }
 
-// An entry without its addresses and ports, by where it and its numbers begin.
-fn load_connection(table: &[u8], at: usize, numbers: usize) -> Connection
-    requires { (at + 4 ≤ length table.now) × (numbers + 32 ≤ length table.now) }
-    ensures { result ≡ connection_at table.now at numbers }
+// An entry without its addresses and ports, by where it, its numbers and its scaling begin.
+fn load_connection(table: &[u8], at: usize, numbers: usize, scaling: usize) -> Connection
+    requires { (at + 4 ≤ length table.now) × (numbers + 32 ≤ length table.now) × (scaling + 3 ≤ length table.now) }
+    ensures { result ≡ connection_at table.now at numbers scaling }
 {
     let stage = table[at];
     let side = table[at + SIDE];
@@ -116,12 +126,17 @@ fn load_connection(table: &[u8], at: usize, numbers: usize) -> Connection
     let deadline = read64(table, numbers);
     let opener = load_end(table, numbers + OPENER);
     let answerer = load_end(table, numbers + ANSWERER);
+    let first = table[scaling];
+    let second = table[scaling + ANSWERER_SHIFT];
+    let offers = table[scaling + OFFERS];
     Connection {
         stage: stage,
         side: side,
         fins: fins,
         deadline: deadline,
         ends: [opener, answerer],
+        shifts: [first, second],
+        offers: offers,
     }
 }
 
@@ -132,7 +147,7 @@ pub fn load(version: Version, table: &[u8], place: usize) -> Entry
 {
     let at = place_at(version, place);
     let key = read_flow(version, table, addresses_at(at), ports_at(version, at));
-    let connection = load_connection(table, at, numbers_at(version, at));
+    let connection = load_connection(table, at, numbers_at(version, at), scaling_at(version, at));
     Entry {
         key: key,
         connection: connection,
@@ -194,31 +209,51 @@ fn store_numbers(table: &mut [u8], at: usize, connection: Connection)
     store_end(table, at + ANSWERER, answerer);
 }
 
-fn store_zeros16(table: &mut [u8], at: usize)
-    requires { at + 16 ≤ length table.old }
-    ensures { table.new ≡ overwrite table.old at (replicate 16 0) }
+// Both shifts, who offered one, and the zero byte after them.
+fn store_scaling(table: &mut [u8], at: usize, connection: Connection)
+    requires { at + 4 ≤ length table.old }
+    ensures { table.new ≡ overwrite table.old at (scaling_bytes connection ++ replicate 1 0) }
 {
-    write64(table, at, 0);
-    write64(table, at + 8, 0);
+    table[at] = connection.shifts[0];
+    table[at + ANSWERER_SHIFT] = connection.shifts[1];
+    table[at + OFFERS] = connection.offers;
+    table[at + FIRST_ZERO] = 0;
 }
 
-fn store_zeros24(table: &mut [u8], at: usize)
-    requires { at + 24 ≤ length table.old }
-    ensures { table.new ≡ overwrite table.old at (replicate 24 0) }
+fn store_zeros12(table: &mut [u8], at: usize)
+    requires { at + 12 ≤ length table.old }
+    ensures { table.new ≡ overwrite table.old at (replicate 12 0) }
 {
-    store_zeros16(table, at);
-    write64(table, at + 16, 0);
+    write32(table, at, 0);
+    write64(table, at + 4, 0);
 }
 
-// The zeros that end an entry.
-fn store_rest(version: Version, table: &mut [u8], at: usize)
-    requires { at + rest_size version ≤ length table.old }
-    ensures { table.new ≡ overwrite table.old at (replicate (rest_size version) 0) }
+fn store_zeros20(table: &mut [u8], at: usize)
+    requires { at + 20 ≤ length table.old }
+    ensures { table.new ≡ overwrite table.old at (replicate 20 0) }
+{
+    store_zeros12(table, at);
+    write64(table, at + 12, 0);
+}
+
+// The whole words of zeros that end an entry.
+fn store_words(version: Version, table: &mut [u8], at: usize)
+    requires { at + words_size version ≤ length table.old }
+    ensures { table.new ≡ overwrite table.old at (replicate (words_size version) 0) }
 {
     match version {
-        Version::V4 => store_zeros16(table, at),
-        Version::V6 => store_zeros24(table, at),
+        Version::V4 => store_zeros12(table, at),
+        Version::V6 => store_zeros20(table, at),
     }
+}
+
+// What stands behind an entry's numbers.
+fn store_rest(version: Version, table: &mut [u8], at: usize, connection: Connection)
+    requires { at + 3 + rest_size version ≤ length table.old }
+    ensures { table.new ≡ overwrite table.old at (scaling_bytes connection ++ replicate (rest_size version) 0) }
+{
+    store_scaling(table, at, connection);
+    store_words(version, table, at + WORDS);
 }
 
 // All bytes of the place are written, the zero ones too.
@@ -232,5 +267,5 @@ pub fn store(version: Version, table: &mut [u8], place: usize, entry: Entry)
     store_marks(table, at, connection);
     store_flow(version, table, addresses_at(at), key);
     store_numbers(table, numbers_at(version, at), connection);
-    store_rest(version, table, rest_at(version, at));
+    store_rest(version, table, scaling_at(version, at), connection);
 }

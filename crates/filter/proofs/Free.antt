@@ -11,7 +11,7 @@ use Rattle.address.specs.declared.Version.{Version}
 use Rattle.address.specs.declared.Version.TheVariants.{V4, V6}
 use Rattle.rows.specs.Rows as rows
 use Rattle.rows.specs.Connections.{connections}
-use Rattle.entry.specs.Layout.{entry_size, connection_at, entry_at, end_bytes, marks_bytes, flow_bytes, numbers_bytes, entry_bytes}
+use Rattle.entry.specs.Layout.{entry_size, connection_at, entry_at, end_bytes, marks_bytes, flow_bytes, numbers_bytes, scaling_bytes, entry_bytes}
 use Rattle.entry.specs.Storable.{Storable}
 use Rattle.entry.specs.Viewed.{stored}
 use Rattle.entry.specs.declared.Entry.{Entry}
@@ -29,7 +29,7 @@ zeros-free V4 t at zeros = entry_at-agree V4 t at [] 0 zeros
 zeros-free V6 t at zeros = entry_at-agree V6 t at [] 0 zeros
 
 pub free-zeros : (v : Version) → Zeros (entry_bytes v free_entry) 0 (entry_size v)
-unfolding entry_bytes marks_bytes flow_bytes numbers_bytes end_bytes octets_of digits tabulate zeros_at all_from
+unfolding entry_bytes marks_bytes flow_bytes numbers_bytes scaling_bytes end_bytes octets_of digits tabulate zeros_at all_from
 free-zeros V4 = zeros_at-true (entry_bytes V4 free_entry) 0 64 refl
 free-zeros V6 = zeros_at-true (entry_bytes V6 free_entry) 0 96 refl
 
@@ -50,4 +50,8 @@ storable-free v = record {
   two_ends = refl;
   opener_fits = record { end = omega arith; edge = omega arith; win = omega arith };
   answerer_fits = record { end = omega arith; edge = omega arith; win = omega arith };
+  two_shifts = refl;
+  opener_shift = omega arith;
+  answerer_shift = omega arith;
+  offers = omega arith;
 }

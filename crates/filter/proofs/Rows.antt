@@ -123,7 +123,7 @@ pub record NotRefused (v : Version) (side clock : ℕ) (t : List ℕ) : Type 0 w
   pub sound : sound_table v t (places_in v t) ≡ true
 
 module _ (v : Version) (side clock : ℕ) (t : List ℕ) where
-  -- rows 5 to 16 and 0
+  -- rows 5 to 16, 19 and 0
   abbrev after : PacketRead → Outcome
   after read = packet_rows Blocked read (on_segment connections (table_of v t) (max clock (header_clock t)) side)
 

@@ -1,4 +1,4 @@
--- Answers run from 0 to 16, 5 to 10 and 16 are the reader's with their offsets, and what a pass writes lies in the table.
+-- Answers run from 0 to 16, and 19; 5 to 10, 16 and 19 are the reader's with their offsets, and what a pass writes lies in the table.
 use Prim.Native.Nat.{ℕ, ◌+◌, ◌≤◌, ◌<◌}
 use mathlib.Core.Path.{◌≡◌, refl}
 use mathlib.Core.Logic.{◌⊎◌, inl, inr}
@@ -21,7 +21,7 @@ use Rattle.rows.specs.Connections.{connections}
 use Rattle.rows.proofs.Rows.{Comes, blocks, passes, makes, comes}
 use Rattle.entry.specs.Layout.{entry_size, place_at}
 use Rattle.entry.proofs.Places.{place_inside}
-use Rattle.filter.specs.Call.{Outcome, places_in, table_of, ask_of, packet_rows, outcome_of, reply_of, table_after}
+use Rattle.filter.specs.Call.{Outcome, places_in, table_of, ask_of, packet_rows, outcome_of, CallAnswer, reply_of, table_after}
 use Rattle.filter.specs.Decision.{decision_of, table_left_by, PassInside}
 use Rattle.filter.specs.declared.Decision.{Decision}
 use Rattle.filter.specs.declared.Reply.{Reply}
@@ -32,7 +32,7 @@ pub data Placed (read : PacketRead) (n place : ℕ) : Type 0 where
   by-reader : (cause : Cause) → read ≡ Refused cause place → n ≡ cause_number cause → Placed read n place
   by-other-row : (PacketAnswer n → ⊥) → place ≡ nowhere → Placed read n place
 
--- 5 to 10 and 16 are the reader's
+-- 5 to 10, 16 and 19 are the reader's
 pub broken-at :
     (v : Version) (read : List ℕ → PacketRead) → ReaderOf v read →
     (p : List ℕ) (n place : ℕ) → Placed (read p) n place → PacketAnswer n → BrokenAt read p n place
@@ -48,13 +48,25 @@ unplaced read n place (by-other-row other none) _ = none
 -- rows 1 to 4 and 11 to 15 have other answers than the reader's
 other_row : (n : ℕ) → (n ≤ 4) ⊎ ((11 ≤ n) × (n ≤ 15)) → PacketAnswer n → ⊥
 other_row n (inl most) (inl answer) = omega (arith, answer.0)
-other_row n (inl most) (inr answer) = omega (arith, answer)
+other_row n (inl most) (inr (inl answer)) = omega (arith, answer)
+other_row n (inl most) (inr (inr answer)) = omega (arith, answer)
 other_row n (inr row) (inl answer) = omega (arith, row.0, answer.1)
-other_row n (inr row) (inr answer) = omega (arith, row.1, answer)
+other_row n (inr row) (inr (inl answer)) = omega (arith, row.1, answer)
+other_row n (inr row) (inr (inr answer)) = omega (arith, row.1, answer)
 
--- an answer from 1 to 16, or one of at most 512 places, inside the table
+-- one of the reader's answers is a call's, and no call's is above 19
+reader-answer : (n : ℕ) → PacketAnswer n → CallAnswer n
+reader-answer n (inl answer) = inl (omega (arith, answer.1))
+reader-answer n (inr (inl answer)) = inl (omega (arith, answer))
+reader-answer n (inr (inr answer)) = inr answer
+
+pub answer≤ : {n : ℕ} → CallAnswer n → n ≤ 19
+answer≤ (inl answer) = omega (arith, answer)
+answer≤ (inr answer) = omega (arith, answer)
+
+-- an answer that blocks, or one of at most 512 places, inside the table
 abbrev pub Within : Version → List ℕ → PacketRead → Outcome → Type 0
-Within v t read (Blocked n place) = (1 ≤ n) × (n ≤ 16) × Placed read n place
+Within v t read (Blocked n place) = (1 ≤ n) × CallAnswer n × Placed read n place
 Within v t read (Passed p now e) = (p < 512) × (place_at v p + entry_size v ≤ length t)
 
 module _ (v : Version) (t : List ℕ) (read : PacketRead) where
@@ -83,21 +95,23 @@ module _ (v : Version) (t : List ℕ) (long : place_at v 1 ≤ length t) (short 
   comes-within :
       (now side : ℕ) (k : Flow) (g : Segment) (read : PacketRead) (o : Outcome) → Comes connections (table_of v t) now side k g o →
       Within v t read o
-  comes-within now side k g read o (blocks n is low high) = rw is (omega (arith, low), omega (arith, high), by-other-row (other_row n (inr (low, high))) refl)
+  comes-within now side k g read o (blocks n is low high) = rw is (omega (arith, low), inl (omega (arith, high)), by-other-row (other_row n (inr (low, high))) refl)
   comes-within now side k g read o (passes p is _ inside _ _) = rw is (place-within p inside)
   comes-within now side k g read o (makes p is _ inside _) = rw is (place-within p inside)
 
   read-within :
       (side clock : ℕ) (read : PacketRead) →
       Within v t read (packet_rows Blocked read (λ k g. filter connections (table_of v t) (ask_of side clock k g)))
-  read-within side clock (Refused cause offset) = let h = packet-answer-bounds (cause-answer cause) in (omega (arith, h.0), h.1, by-reader cause refl refl)
+  read-within side clock (Refused cause offset) =
+      let answer = cause-answer cause in
+      (omega (arith, (packet-answer-bounds answer).0), reader-answer (cause_number cause) answer, by-reader cause refl refl)
   read-within side clock (Tcp k g) =
       let now = clock_used connections (table_of v t) (ask_of side clock k g) in
       comes-within now side k g (Tcp k g) _ (comes connections (table_of v t) now side k g)
 
 module _ (v : Version) (side clock : ℕ) (t : List ℕ) (read : PacketRead) where
   row_within : (n : ℕ) → 1 ≤ n → n ≤ 4 → Within v t read (Blocked n nowhere)
-  row_within n some most = (some, omega arith, by-other-row (other_row n (inl most)) refl)
+  row_within n some most = (some, inl (omega arith), by-other-row (other_row n (inl most)) refl)
 
   pub outcome-within : Within v t read (outcome_of v side clock t read)
   unfolding outcome_of
@@ -111,12 +125,12 @@ module _ (v : Version) (side clock : ℕ) (t : List ℕ) (read : PacketRead) whe
   pub decision-fits : (d : Decision) → d ≡ decision_of (outcome_of v side clock t read) → PassInside v t d
   decision-fits d e = rw e (within-fits v t read (outcome_of v side clock t read) outcome-within)
 
--- an answer is at most 16, and a place at most 65,535
+-- an answer is at most 19, and a place at most 65,535
 pub reply-small :
     (v : Version) (read : List ℕ → PacketRead) → ReaderOf v read →
     (side clock : ℕ) (t packet : List ℕ) →
     let r = reply_of (outcome_of v side clock t (read packet)) in
-    (r.answer ≤ 16) × (r.place ≤ 65535)
+    (r.answer ≤ 19) × (r.place ≤ 65535)
 reply-small v read reader side clock t packet =
     go (outcome_of v side clock t (read packet)) (outcome-within v side clock t (read packet))
   where
@@ -124,6 +138,6 @@ reply-small v read reader side clock t packet =
     small (by-reader cause is numbered) = omega (arith, (reader.points packet cause _ is).below_120)
     small (by-other-row other none) = omega (arith, none)
 
-    go : (o : Outcome) → Within v t (read packet) o → ((reply_of o).answer ≤ 16) × ((reply_of o).place ≤ 65535)
-    go (Blocked n place) h = (h.1, small h.2)
+    go : (o : Outcome) → Within v t (read packet) o → ((reply_of o).answer ≤ 19) × ((reply_of o).place ≤ 65535)
+    go (Blocked n place) h = (answer≤ h.1, small h.2)
     go (Passed p now e) h = (omega arith, omega (arith, h.0))

@@ -1,5 +1,5 @@
 -- One call of the filter (document 01, "What the gate says"), over what a reader gives of the packet; `outcome_of` is the whole list.
-use Rattle.std.specs.Prelude.{ℕ, ◌^◌, Bool, not, List, length}
+use Rattle.std.specs.Prelude.{ℕ, ◌^◌, ◌≤◌, ◌≡◌, ◌⊎◌, Bool, not, List, length}
 use Rattle.choice.specs.Choice.{when◌then◌else◌, ◌≤ᵇ◌}
 use Rattle.octets.specs.BigEndian.{octets_of}
 use Rattle.octets.specs.Overwrite.{overwrite}
@@ -49,7 +49,8 @@ module _ {A : Type 0} (refuse : (answer place : ℕ) → A) where
       else when not sound then refuse 4 nowhere
       else next
 
-  -- 5 to 10, with 16 after 9, as the version's reader has them; the place is the offset of the cause (document 02, items 2 and 5)
+  -- 5 to 10, with 16 after 9 and 19 after 10, as the version's reader has them; the place is the offset of the cause (document 02, items 2, 5
+  -- and 8)
   abbrev pub packet_rows : PacketRead → (Flow → Segment → A) → A
   packet_rows (Refused cause offset) next = refuse (cause_number cause) offset
   packet_rows (Tcp k g) next = next k g
@@ -70,6 +71,10 @@ abbrev pub ipv4_outcome : ℕ → ℕ → List ℕ → List ℕ → Outcome
 ipv4_outcome side clock t packet = outcome_of V4 side clock t (read_ipv4 packet)
 
 -- What a call gives and leaves
+
+-- the documents' numbers of a call's answers: 0 to 16, and 19
+abbrev pub CallAnswer : ℕ → Type 0
+CallAnswer n = (n ≤ 16) ⊎ (n ≡ 19)
 
 -- the whole table is viewed, so each place is its own number
 abbrev pub reply_of : Outcome → Reply

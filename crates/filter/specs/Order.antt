@@ -1,6 +1,6 @@
 -- "The first line that applies wins, top to bottom": calls to which one of the rows down to 11 applies and, but for the last, a later one too. Of a
--- packet "The first cause in document 01's order counts" (document 02, item 2), 16 "after 9 and before 10" (item 5): each of the 15 causes, with
--- a later one where there is any.
+-- packet "The first cause in document 01's order counts" (document 02, item 2), 16 "after 9 and before 10" (item 5), 19 "after 10" (item 8): each of the
+-- 16 causes, with a later one where there is any.
 use Rattle.std.specs.Prelude.{ℕ, ◌-◌, ◌^◌, ◌≡◌, List, [], ◌∷◌, ◌++◌, replicate}
 use Rattle.packet.specs.Examples.{ipv4, tcp}
 use Rattle.rows.specs.Rows.{nowhere}
@@ -20,7 +20,7 @@ filtered side clock table packet = reply_of (ipv4_outcome side clock table packe
 abbrev gives : (answer place : ℕ) → Reply
 gives answer place = record { answer = answer; place = place }
 
--- The claims, rows 5 to 10 and 16 by their causes, each with its offset
+-- The claims, rows 5 to 10, 16 and 19 by their causes, each with its offset
 
 pub record FirstThatApplies : Type 0 where
   -- side 2 and clock 2^48; clock 2^48 and no table; an unsound table of the wrong length; an unsound one and an empty packet
@@ -50,10 +50,14 @@ pub record FirstThatApplies : Type 0 where
   pub row_10_syn_fin : filtered 1 0 fresh (ipv4 0x45 41 0 6 0x66 0xcd 1 2 (tcp 80 3 0x9b 0xde ++ (0 ∷ []))) ≡ gives 10 33
   pub row_10_none : filtered 1 0 fresh (ipv4 0x45 40 0 6 0x66 0xce 1 2 (tcp 80 0 0x9b 0xe2)) ≡ gives 10 33
   pub row_10_payload : filtered 1 0 fresh (ipv4 0x45 41 0 6 0x66 0xcd 1 2 (tcp 80 2 0x9b 0xdf ++ (0 ∷ []))) ≡ gives 10 33
-  -- behind a header of 6 words: nothing; a data offset of 4 words; a wrong TCP sum; none of SYN, ACK and RST
+  -- an option of length 0 on a SYN with FIN; the same without FIN, from side 1
+  pub row_10_option : filtered 1 0 fresh (ipv4 0x45 44 0 6 0x66 0xca 1 2 (tcp 96 3 0x89 0xdb ++ (2 ∷ 0 ∷ 0 ∷ 0 ∷ []))) ≡ gives 10 33
+  pub row_19 : filtered 1 0 fresh (ipv4 0x45 44 0 6 0x66 0xca 1 2 (tcp 96 2 0x89 0xdc ++ (2 ∷ 0 ∷ 0 ∷ 0 ∷ []))) ≡ gives 19 40
+  -- behind a header of 6 words: nothing; a data offset of 4 words; a wrong TCP sum; none of SYN, ACK and RST; a SYN's option of length 0
   pub options_9_short : filtered 1 0 fresh (ipv4 0x46 24 0 6 0x65 0xde 1 2 (replicate 4 0)) ≡ gives 9 24
   pub options_9_below : filtered 1 0 fresh (ipv4 0x46 44 0 6 0x65 0xca 1 2 (replicate 4 0 ++ tcp 64 0 0 0)) ≡ gives 9 36
   pub options_16 : filtered 1 0 fresh (ipv4 0x46 44 0 6 0x65 0xca 1 2 (replicate 4 0 ++ tcp 80 0 0x9b 0xe3)) ≡ gives 16 40
   pub options_10 : filtered 1 0 fresh (ipv4 0x46 44 0 6 0x65 0xca 1 2 (replicate 4 0 ++ tcp 80 0 0x9b 0xe2)) ≡ gives 10 37
+  pub options_19 : filtered 1 0 fresh (ipv4 0x46 48 0 6 0x65 0xc6 1 2 (replicate 4 0 ++ (tcp 96 2 0x89 0xdc ++ (2 ∷ 0 ∷ 0 ∷ 0 ∷ [])))) ≡ gives 19 44
   -- of no connection
   pub row_11 : filtered 1 0 fresh (ipv4 0x45 40 0 6 0x66 0xce 1 2 (tcp 80 16 0x9b 0xd2)) ≡ gives 11 nowhere

@@ -1,10 +1,12 @@
-// One call of the filter: the rows of document 01, with 16 of document 02, item 5, on a table of either IP version; and the filter of IPv4.
-ghost use Rattle.std.specs.Prelude.{◌≡◌, ◌^◌, ◌≤◌, ◌<◌, max, length};
+// One call of the filter: the rows of document 01, with 16 and 19 of document 02, items 5 and 8, on a table of either IP version; and
+// the filter of IPv4.
+ghost use Rattle.std.specs.Prelude.{◌≡◌, true, ◌^◌, ◌≤◌, ◌<◌, max, length};
+ghost use Rattle.connection.specs.Scaling.{ShiftsFit};
 ghost use Rattle.entry.specs.Layout.{header_size, place_at};
 ghost use Rattle.entry.specs.Viewed.{viewed, stored};
 ghost use Rattle.rows.specs.Rows.{Blocked, Passed, nowhere, free_entry, entry_with, sender_of, on_entry, opening_entry, unmatched, on_segment};
 ghost use Rattle.rows.specs.Connections.{connections};
-ghost use Rattle.table.specs.Table.{header_clock, view_of};
+ghost use Rattle.table.specs.Table.{header_clock, sound_table, view_of};
 ghost use Rattle.filter.specs.Length.{legal_length, places_for};
 ghost use Rattle.filter.specs.Call.{packet_rows, outcome_of, ipv4_outcome, reply_of, table_after};
 ghost use Rattle.filter.specs.Decision.{table_refusal, decision_of, table_left_by, PassInside};
@@ -60,6 +62,8 @@ fn free_entry() -> Entry
             fins: 0,
             deadline: 0,
             ends: [zero, zero],
+            shifts: [0, 0],
+            offers: 0,
         },
     }
 }
@@ -122,7 +126,7 @@ fn entry_after(entry: Entry, after: Connection) -> Entry
 
 // Rows 13 to 15 and 0, for a segment that matches the entry at a place.
 fn on_entry(entry: Entry, place: usize, clock: u64, side: u8, segment: Segment) -> Decision
-    requires { clock < 2 ^ 48 }
+    requires { (clock < 2 ^ 48) × ShiftsFit entry.connection }
     ensures { result ≡ decision_of (on_entry connections (viewed entry) place clock side segment) }
 {
     let from = sender(entry, side);
@@ -187,7 +191,7 @@ fn on_segment(
     flow: Flow,
     segment: Segment,
 ) -> Decision
-    requires { (place_at version places ≤ length table.now) × (clock < 2 ^ 48) }
+    requires { (place_at version places ≤ length table.now) × (clock < 2 ^ 48) × (sound_table version table.now places ≡ true) }
     ensures { result ≡ decision_of (on_segment connections (view_of version table.now places) clock side flow segment) }
 {
     let found = find(version, table, places, clock, side, flow);
@@ -247,7 +251,7 @@ fn clock_used(table: &[u8], given: u64) -> u64
     given
 }
 
-// Rows 5 to 16 and 0, by what was read of the packet, on a sound table by the clock used.
+// Rows 5 to 16, 19 and 0, by what was read of the packet, on a sound table by the clock used.
 fn on_read(
     version: Version,
     table: &[u8],
@@ -256,7 +260,7 @@ fn on_read(
     side: u8,
     read: PacketRead,
 ) -> Decision
-    requires { (place_at version places ≤ length table.now) × (clock < 2 ^ 48) }
+    requires { (place_at version places ≤ length table.now) × (clock < 2 ^ 48) × (sound_table version table.now places ≡ true) }
     ensures { result ≡ decision_of (packet_rows Blocked read (on_segment connections (view_of version table.now places) clock side)) }
 {
     match read {

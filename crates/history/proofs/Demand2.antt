@@ -50,7 +50,7 @@ pub on_wire-placed_by : (E E' i : ℕ) (g : Segment) → Placeable g → Up E �
 on_wire-placed_by E E' i g r up up' =
     let seq = wrap-stands E g.seq.0 up r.seq_fits in
     let ack = wrap-stands E' g.ack.0 up' r.ack_fits in
-    λ k. record { seq = record { 0 = seq k }; ack = record { 0 = ack k }; window = g.window; flags = g.flags; octets = g.octets }
+    λ k. record { seq = record { 0 = seq k }; ack = record { 0 = ack k }; window = g.window; flags = g.flags; octets = g.octets; offer = g.offer }
 
 pub placed-formed : (E E' i : ℕ) (g : Segment) → Placeable g → Formed (placed_by E E' i g)
 placed-formed E E' i g r = record { window_fits = r.window_fits; syn_alone = r.syn_alone }

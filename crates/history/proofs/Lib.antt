@@ -1,3 +1,4 @@
+pub mod Scaling
 pub mod Step
 pub mod Verdict
 pub mod Pass

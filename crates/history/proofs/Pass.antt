@@ -1,5 +1,5 @@
 -- A pass: the connection that it leaves holds the history with the segment on top.
-use Prim.Native.Nat.{ℕ, zero, suc, ◌+◌, ◌-◌, ◌<◌, ◌≤◌, max}
+use Prim.Native.Nat.{ℕ, zero, suc, ◌+◌, ◌-◌, ◌*◌, ◌%◌, ◌<◌, ◌≤◌, max}
 use mathlib.Core.Path.{◌≡◌, refl, sym, ap, ◌∙◌}
 use mathlib.Core.Bool.{Bool, true, false, ◌&&◌, ◌||◌, not, and-false}
 use mathlib.Core.List.{List, [], ◌∷◌}
@@ -10,10 +10,13 @@ use Rattle.choice.specs.Choice.{when◌then◌else◌, ◌≤ᵇ◌, ◌=ᵇ◌,
 use Rattle.choice.proofs.Choice.{when-true, when-false, when-either, when-=, when-=-not, when-≠, when-≠-not, when-≤, when-≤-not}
 use Rattle.choice.proofs.Tests.{false-true, &&-true}
 use Rattle.serial.specs.Ring.{wrap}
+use Rattle.serial.specs.declared.OctetCount.{OctetCount}
 use Rattle.serial.proofs.Ring.{wrap-plus}
 use Rattle.segment.specs.Flags.{fin, syn, rst, ack, SYN, SYN+ACK, ACK+RST}
+use Rattle.segment.specs.Offers.{no_offer}
 use Rattle.segment.specs.declared.Segment.{Segment}
-use Rattle.connection.specs.Ends.{unheard, sender, sent, granted, begun, ends_after}
+use Rattle.connection.specs.Scaling.{kept_shift, offer_bit}
+use Rattle.connection.specs.Ends.{count, unheard, sender, sent, granted, begun, ends_after}
 use Rattle.connection.specs.Ranges.{ack_range}
 use Rattle.connection.specs.Stages.{fins_after, stage_after}
 use Rattle.connection.specs.Decision.{opened, repeated, answered, carried, reset, passed}
@@ -21,14 +24,20 @@ use Rattle.connection.specs.declared.Connection.{Connection}
 use Rattle.connection.specs.declared.End.{End}
 use Rattle.connection.specs.declared.Verdict.TheVariants.{Pass, NotAllowed, SequenceMissed, AckMissed}
 use Rattle.connection.proofs.Stages.{stage_after≥2}
+use Rattle.connection.proofs.Sound.{none_kept, none-bit, offer_bit≤1}
 use Rattle.history.specs.Numbers.{Numbers, on_ring, bounds_i_ii, bounds_iii_iv}
-use Rattle.history.specs.History.{LineSegment, end_by, edge_by, window_by, numbers_of, on_wire, stage_of, fins_of, same_syn_on_line, reply_on_line, judge_unanswered, judge, Holds, Formed}
-use Rattle.history.proofs.Step.{sent_to, granted_to, Spans, ack-near, ack_range-small, sent-line, granted-line, sent_to-spans, granted_to-spans}
+use Rattle.history.specs.History.{LineSegment, offer_in, shift_by, window_after, end_by, edge_by, window_by, numbers_of, on_wire, stage_of, fins_of, same_syn_on_line, reply_on_line, judge_unanswered, judge, Holds, Formed}
+use Rattle.history.proofs.Scaling.{range_small, shift_by≤, syn-unscaled, opener-keeps, offer-theirs, opening-offers, answer-offers, offers-stay, window_same, window_fits}
+use Rattle.history.proofs.Step.{sent_to, granted_to, Spans, ack-near, sent-line, granted-line, sent_to-spans, granted_to-spans}
 use Rattle.history.proofs.Verdict.{Unanswered, Answered, spans}
 
 -- The numbers with one more segment
 
 module _ (h : List LineSegment) (p : LineSegment) (no_reset : rst p.flags ≡ 1 → ⊥) where
+  -- as it counts
+  abbrev counts : ℕ
+  counts = window_after h p
+
   counted : (i : ℕ) → p.from ≡ i → ((p.from =ᵇ i) && (rst p.flags ≠ᵇ 1)) ≡ true
   counted i e = rw (eq-eqb p.from i e, ne_eqb (rst p.flags) 1 no_reset)
 
@@ -38,69 +47,71 @@ module _ (h : List LineSegment) (p : LineSegment) (no_reset : rst p.flags ≡ 1 
   -- each is the larger of what it was and the segment's
   one_more :
       (i : ℕ) →
-      numbers_of i (p ∷ h) ≡ record { end = max (numbers_of i h).end (end_by i p); edge = max (numbers_of i h).edge (edge_by i p); win = max (numbers_of i h).win (window_by i p) }
+      numbers_of i (p ∷ h) ≡ record { end = max (numbers_of i h).end (end_by i p); edge = max (numbers_of i h).edge (edge_by i counts p); win = max (numbers_of i h).win (window_by i counts p) }
   unfolding numbers_of
   one_more i =
       let end : (numbers_of i (p ∷ h)).end ≡ max (numbers_of i h).end (end_by i p) = omega arith in
-      let edge : (numbers_of i (p ∷ h)).edge ≡ max (numbers_of i h).edge (edge_by i p) = omega arith in
-      let win : (numbers_of i (p ∷ h)).win ≡ max (numbers_of i h).win (window_by i p) = omega arith in
+      let edge : (numbers_of i (p ∷ h)).edge ≡ max (numbers_of i h).edge (edge_by i counts p) = omega arith in
+      let win : (numbers_of i (p ∷ h)).win ≡ max (numbers_of i h).win (window_by i counts p) = omega arith in
       λ k. record { end = end k; edge = edge k; win = win k }
 
   -- its sender's: a SYN's end is no further than the edge
   pub numbers-sender :
       (i : ℕ) → p.from ≡ i → p.start + p.length ≤ (numbers_of i h).edge →
-      numbers_of i (p ∷ h) ≡ sent_to (numbers_of i h) (p.start + p.length) p.window
+      numbers_of i (p ∷ h) ≡ sent_to (numbers_of i h) (p.start + p.length) counts
   numbers-sender i mine inside =
       let end : end_by i p ≡ p.start + p.length = when-true _ _ _ (counted i mine) in
-      let win : window_by i p ≡ p.window = when-true _ _ _ (counted i mine) in
-      let own : edge_by i p ≡ (when syn p.flags =ᵇ 1 then p.start + p.length else 0) = when-false _ _ _ (rw (ne_eqb (rst p.flags) 1 no_reset)) ∙ when-= _ _ mine in
-      let edge : max (numbers_of i h).edge (edge_by i p) ≡ (numbers_of i h).edge = rw own (omega (arith, when-either (λ n. n ≤ (numbers_of i h).edge) (syn p.flags =ᵇ 1) (p.start + p.length) 0 inside (omega arith))) in
+      let win : window_by i counts p ≡ counts = when-true _ _ _ (counted i mine) in
+      let own : edge_by i counts p ≡ (when syn p.flags =ᵇ 1 then p.start + p.length else 0) = when-false _ _ _ (rw (ne_eqb (rst p.flags) 1 no_reset)) ∙ when-= _ _ mine in
+      let edge : max (numbers_of i h).edge (edge_by i counts p) ≡ (numbers_of i h).edge = rw own (omega (arith, when-either (λ n. n ≤ (numbers_of i h).edge) (syn p.flags =ᵇ 1) (p.start + p.length) 0 inside (omega arith))) in
       one_more i ∙ λ k. record { end = ap (max (numbers_of i h).end) end k; edge = edge k; win = ap (max (numbers_of i h).win) win k }
 
   -- a SYN's sender's, whatever its edge was
   pub numbers-syn :
       (i : ℕ) → p.from ≡ i → syn p.flags ≡ 1 →
-      numbers_of i (p ∷ h) ≡ record { end = max (numbers_of i h).end (p.start + p.length); edge = max (numbers_of i h).edge (p.start + p.length); win = max (numbers_of i h).win p.window }
+      numbers_of i (p ∷ h) ≡ record { end = max (numbers_of i h).end (p.start + p.length); edge = max (numbers_of i h).edge (p.start + p.length); win = max (numbers_of i h).win counts }
   numbers-syn i mine a-syn =
       let end : end_by i p ≡ p.start + p.length = when-true _ _ _ (counted i mine) in
-      let win : window_by i p ≡ p.window = when-true _ _ _ (counted i mine) in
-      let edge : edge_by i p ≡ p.start + p.length = when-false _ _ _ (rw (ne_eqb (rst p.flags) 1 no_reset)) ∙ when-= _ _ mine ∙ when-= _ _ a-syn in
+      let win : window_by i counts p ≡ counts = when-true _ _ _ (counted i mine) in
+      let edge : edge_by i counts p ≡ p.start + p.length = when-false _ _ _ (rw (ne_eqb (rst p.flags) 1 no_reset)) ∙ when-= _ _ mine ∙ when-= _ _ a-syn in
       one_more i ∙ λ k. record { end = ap (max (numbers_of i h).end) end k; edge = ap (max (numbers_of i h).edge) edge k; win = ap (max (numbers_of i h).win) win k }
 
   -- the other end's, by an acknowledgement and without one
   pub numbers-acked :
       (i : ℕ) → (p.from ≡ i → ⊥) → ack p.flags ≡ 1 →
-      numbers_of i (p ∷ h) ≡ granted_to (numbers_of i h) (p.acked + max p.window 1)
+      numbers_of i (p ∷ h) ≡ granted_to (numbers_of i h) (p.acked + max counts 1)
   numbers-acked i theirs acks =
       let end : max (numbers_of i h).end (end_by i p) ≡ (numbers_of i h).end = ap (max (numbers_of i h).end) (when-false _ _ _ (uncounted i theirs)) ∙ omega arith in
-      let win : max (numbers_of i h).win (window_by i p) ≡ (numbers_of i h).win = ap (max (numbers_of i h).win) (when-false _ _ _ (uncounted i theirs)) ∙ omega arith in
-      let edge : edge_by i p ≡ p.acked + max p.window 1 = when-false _ _ _ (rw (ne_eqb (rst p.flags) 1 no_reset)) ∙ when-=-not _ _ theirs ∙ when-= _ _ acks in
+      let win : max (numbers_of i h).win (window_by i counts p) ≡ (numbers_of i h).win = ap (max (numbers_of i h).win) (when-false _ _ _ (uncounted i theirs)) ∙ omega arith in
+      let edge : edge_by i counts p ≡ p.acked + max counts 1 = when-false _ _ _ (rw (ne_eqb (rst p.flags) 1 no_reset)) ∙ when-=-not _ _ theirs ∙ when-= _ _ acks in
       one_more i ∙ λ k. record { end = end k; edge = ap (max (numbers_of i h).edge) edge k; win = win k }
 
   pub numbers-unacked : (i : ℕ) → (p.from ≡ i → ⊥) → (ack p.flags ≡ 1 → ⊥) → numbers_of i (p ∷ h) ≡ numbers_of i h
   numbers-unacked i theirs silent =
       let end : max (numbers_of i h).end (end_by i p) ≡ (numbers_of i h).end = ap (max (numbers_of i h).end) (when-false _ _ _ (uncounted i theirs)) ∙ omega arith in
-      let win : max (numbers_of i h).win (window_by i p) ≡ (numbers_of i h).win = ap (max (numbers_of i h).win) (when-false _ _ _ (uncounted i theirs)) ∙ omega arith in
-      let edge : max (numbers_of i h).edge (edge_by i p) ≡ (numbers_of i h).edge = ap (max (numbers_of i h).edge) (when-false _ _ _ (rw (ne_eqb (rst p.flags) 1 no_reset)) ∙ when-=-not _ _ theirs ∙ when-=-not _ _ silent) ∙ omega arith in
+      let win : max (numbers_of i h).win (window_by i counts p) ≡ (numbers_of i h).win = ap (max (numbers_of i h).win) (when-false _ _ _ (uncounted i theirs)) ∙ omega arith in
+      let edge : max (numbers_of i h).edge (edge_by i counts p) ≡ (numbers_of i h).edge = ap (max (numbers_of i h).edge) (when-false _ _ _ (rw (ne_eqb (rst p.flags) 1 no_reset)) ∙ when-=-not _ _ theirs ∙ when-=-not _ _ silent) ∙ omega arith in
       one_more i ∙ λ k. record { end = end k; edge = edge k; win = win k }
 
 -- What is written, from what becomes of F and of T
 
 pub ends_after-acked :
-    (x y : ℕ → End) (i : ℕ) (g : Segment) → i < 2 → ack g.flags ≡ 1 → sent (x i) g ≡ y i → granted (x (1 - i)) g ≡ y (1 - i) →
-    ends_after (x 0 ∷ x 1 ∷ []) i g ≡ y 0 ∷ y 1 ∷ []
+    (x y : ℕ → End) (i : ℕ) (g : Segment) (w : OctetCount) → i < 2 → ack g.flags ≡ 1 → sent (x i) g w ≡ y i →
+    granted (x (1 - i)) g w ≡ y (1 - i) →
+    ends_after (x 0 ∷ x 1 ∷ []) i g w ≡ y 0 ∷ y 1 ∷ []
 unfolding ends_after
-ends_after-acked x y zero g side acks f t = when-= _ _ acks ∙ λ k. f k ∷ t k ∷ []
-ends_after-acked x y (suc zero) g side acks f t = when-= _ _ acks ∙ λ k. t k ∷ f k ∷ []
-ends_after-acked x y (suc (suc i)) g side acks f t = absurd (omega arith)
+ends_after-acked x y zero g w side acks f t = when-= _ _ acks ∙ λ k. f k ∷ t k ∷ []
+ends_after-acked x y (suc zero) g w side acks f t = when-= _ _ acks ∙ λ k. t k ∷ f k ∷ []
+ends_after-acked x y (suc (suc i)) g w side acks f t = absurd (omega arith)
 
 pub ends_after-unacked :
-    (x y : ℕ → End) (i : ℕ) (g : Segment) → i < 2 → (ack g.flags ≡ 1 → ⊥) → sent (x i) g ≡ y i → x (1 - i) ≡ y (1 - i) →
-    ends_after (x 0 ∷ x 1 ∷ []) i g ≡ y 0 ∷ y 1 ∷ []
+    (x y : ℕ → End) (i : ℕ) (g : Segment) (w : OctetCount) → i < 2 → (ack g.flags ≡ 1 → ⊥) → sent (x i) g w ≡ y i →
+    x (1 - i) ≡ y (1 - i) →
+    ends_after (x 0 ∷ x 1 ∷ []) i g w ≡ y 0 ∷ y 1 ∷ []
 unfolding ends_after
-ends_after-unacked x y zero g side silent f t = when-=-not _ _ silent ∙ λ k. f k ∷ t k ∷ []
-ends_after-unacked x y (suc zero) g side silent f t = when-=-not _ _ silent ∙ λ k. t k ∷ f k ∷ []
-ends_after-unacked x y (suc (suc i)) g side silent f t = absurd (omega arith)
+ends_after-unacked x y zero g w side silent f t = when-=-not _ _ silent ∙ λ k. f k ∷ t k ∷ []
+ends_after-unacked x y (suc zero) g w side silent f t = when-=-not _ _ silent ∙ λ k. t k ∷ f k ∷ []
+ends_after-unacked x y (suc (suc i)) g w side silent f t = absurd (omega arith)
 
 spans-of-both : (x : ℕ → Numbers) (i : ℕ) → i < 2 → Spans (x i) → Spans (x (1 - i)) → Spans (x 0) × Spans (x 1)
 spans-of-both x zero side f t = (f, t)
@@ -121,13 +132,20 @@ ranges-met false a y e = false-true cc
 
 module _ (c : Connection) (h : List LineSegment) (holds : Holds c h) (p : LineSegment) (side : p.from < 2) (formed : Formed p) (no_reset : rst p.flags ≡ 1 → ⊥) (pass : judge h p ≡ Pass) where
   module _ (open-h : Answered h) where
+    -- the range and the window by the sender's shift
+    abbrev range : ℕ
+    range = ack_range (shift_by (offer_in h) p.from)
+
+    abbrev w : OctetCount
+    w = count (window_after h p)
+
     F : Spans (numbers_of p.from h)
     F = spans h open-h p.from side
 
     T : Spans (numbers_of (1 - p.from) h)
     T = spans h open-h (1 - p.from) (omega arith)
 
-    met : (bounds_i_ii (numbers_of p.from h) (numbers_of (1 - p.from) h) p.start p.length ≡ true) × (eqb (ack p.flags) 1 ≡ true → bounds_iii_iv ack_range (numbers_of (1 - p.from) h) p.acked ≡ true)
+    met : (bounds_i_ii (numbers_of p.from h) (numbers_of (1 - p.from) h) p.start p.length ≡ true) × (eqb (ack p.flags) 1 ≡ true → bounds_iii_iv range (numbers_of (1 - p.from) h) p.acked ≡ true)
     unfolding judge
     met = ranges-met _ _ _ (sym (when-=-not _ _ (λ (e : stage_of h ≡ 1). omega (arith, open-h.stage))) ∙ pass)
 
@@ -136,31 +154,31 @@ module _ (c : Connection) (h : List LineSegment) (holds : Holds c h) (p : LineSe
         let b = &&-true (p.start + p.length ≤ᵇ (numbers_of p.from h).edge) ((numbers_of p.from h).end ≤ᵇ p.start + (numbers_of (1 - p.from) h).win) met.0 in
         (leb-true _ _ b.1, leb-true _ _ b.0)
 
-    acked-bounds : ack p.flags ≡ 1 → (p.acked ≤ (numbers_of (1 - p.from) h).end) × ((numbers_of (1 - p.from) h).end ≤ p.acked + ack_range)
+    acked-bounds : ack p.flags ≡ 1 → (p.acked ≤ (numbers_of (1 - p.from) h).end) × ((numbers_of (1 - p.from) h).end ≤ p.acked + range)
     acked-bounds acks =
-        let b = &&-true (p.acked ≤ᵇ (numbers_of (1 - p.from) h).end) ((numbers_of (1 - p.from) h).end ≤ᵇ p.acked + ack_range) (met.1 (eq-eqb (ack p.flags) 1 acks)) in
+        let b = &&-true (p.acked ≤ᵇ (numbers_of (1 - p.from) h).end) ((numbers_of (1 - p.from) h).end ≤ᵇ p.acked + range) (met.1 (eq-eqb (ack p.flags) 1 acks)) in
         (leb-true _ _ b.0, leb-true _ _ b.1)
 
     -- the sender's record and numbers
-    sender-after : sent (on_ring (numbers_of p.from h)) (on_wire p) ≡ on_ring (numbers_of p.from (p ∷ h))
+    sender-after : sent (on_ring (numbers_of p.from h)) (on_wire p) w ≡ on_ring (numbers_of p.from (p ∷ h))
     sender-after =
-        sent-line (numbers_of p.from h) (numbers_of (1 - p.from) h) F T p bounds.0 bounds.1
+        sent-line (numbers_of p.from h) (numbers_of (1 - p.from) h) F T p w bounds.0 bounds.1
         ∙ ap on_ring (sym (numbers-sender h p no_reset p.from refl bounds.1))
 
     sender-spans : Spans (numbers_of p.from (p ∷ h))
     sender-spans =
         rw (numbers-sender h p no_reset p.from refl bounds.1)
-        (sent_to-spans (numbers_of p.from h) (p.start + p.length) p.window F bounds.1 formed.window_fits)
+        (sent_to-spans (numbers_of p.from h) (p.start + p.length) w.0 F bounds.1 (window_fits (offer_in h) p formed))
 
     apart : p.from ≡ 1 - p.from → ⊥
     apart e = omega arith
 
     -- the other end's
-    acked-after : ack p.flags ≡ 1 → granted (on_ring (numbers_of (1 - p.from) h)) (on_wire p) ≡ on_ring (numbers_of (1 - p.from) (p ∷ h))
+    acked-after : ack p.flags ≡ 1 → granted (on_ring (numbers_of (1 - p.from) h)) (on_wire p) w ≡ on_ring (numbers_of (1 - p.from) (p ∷ h))
     acked-after acks =
         let b = acked-bounds acks in
-        let near = ack-near ack_range ack_range-small (numbers_of (1 - p.from) h) p.acked b.0 b.1 in
-        granted-line (numbers_of (1 - p.from) h) T p near b.0 formed.window_fits
+        let near = ack-near range (range_small _ (shift_by≤ (offer_in h) p.from)) (numbers_of (1 - p.from) h) p.acked b.0 b.1 in
+        granted-line (numbers_of (1 - p.from) h) T p w near b.0 (window_fits (offer_in h) p formed)
         ∙ ap on_ring (sym (numbers-acked h p no_reset (1 - p.from) apart acks))
 
     unacked-after : (ack p.flags ≡ 1 → ⊥) → on_ring (numbers_of (1 - p.from) h) ≡ on_ring (numbers_of (1 - p.from) (p ∷ h))
@@ -173,21 +191,21 @@ module _ (c : Connection) (h : List LineSegment) (holds : Holds c h) (p : LineSe
         by-ack true e =
             let acks = eqb-true (ack p.flags) 1 e in
             rw (numbers-acked h p no_reset (1 - p.from) apart acks)
-            (granted_to-spans (numbers_of (1 - p.from) h) p.acked p.window T (acked-bounds acks).0 formed.window_fits)
+            (granted_to-spans (numbers_of (1 - p.from) h) p.acked w.0 T (acked-bounds acks).0 (window_fits (offer_in h) p formed))
         by-ack false e = rw (numbers-unacked h p no_reset (1 - p.from) apart (eqb-false (ack p.flags) 1 e)) T
 
-    records-after : ends_after (on_ring (numbers_of 0 h) ∷ on_ring (numbers_of 1 h) ∷ []) p.from (on_wire p) ≡ on_ring (numbers_of 0 (p ∷ h)) ∷ on_ring (numbers_of 1 (p ∷ h)) ∷ []
+    records-after : ends_after (on_ring (numbers_of 0 h) ∷ on_ring (numbers_of 1 h) ∷ []) p.from (on_wire p) w ≡ on_ring (numbers_of 0 (p ∷ h)) ∷ on_ring (numbers_of 1 (p ∷ h)) ∷ []
     records-after = by-ack (eqb (ack p.flags) 1) refl
       where
         by-ack :
             (t : Bool) → eqb (ack p.flags) 1 ≡ t →
-            ends_after (on_ring (numbers_of 0 h) ∷ on_ring (numbers_of 1 h) ∷ []) p.from (on_wire p) ≡ on_ring (numbers_of 0 (p ∷ h)) ∷ on_ring (numbers_of 1 (p ∷ h)) ∷ []
+            ends_after (on_ring (numbers_of 0 h) ∷ on_ring (numbers_of 1 h) ∷ []) p.from (on_wire p) w ≡ on_ring (numbers_of 0 (p ∷ h)) ∷ on_ring (numbers_of 1 (p ∷ h)) ∷ []
         by-ack true e =
             let acks = eqb-true (ack p.flags) 1 e in
-            ends_after-acked (λ k. on_ring (numbers_of k h)) (λ k. on_ring (numbers_of k (p ∷ h))) p.from (on_wire p) side acks sender-after (acked-after acks)
+            ends_after-acked (λ k. on_ring (numbers_of k h)) (λ k. on_ring (numbers_of k (p ∷ h))) p.from (on_wire p) w side acks sender-after (acked-after acks)
         by-ack false e =
             let silent = eqb-false (ack p.flags) 1 e in
-            ends_after-unacked (λ k. on_ring (numbers_of k h)) (λ k. on_ring (numbers_of k (p ∷ h))) p.from (on_wire p) side silent sender-after (unacked-after silent)
+            ends_after-unacked (λ k. on_ring (numbers_of k h)) (λ k. on_ring (numbers_of k (p ∷ h))) p.from (on_wire p) w side silent sender-after (unacked-after silent)
 
     fins-after : fins_after c.fins p.from p.flags ≡ fins_of (p ∷ h)
     unfolding fins_of
@@ -205,7 +223,13 @@ module _ (c : Connection) (h : List LineSegment) (holds : Holds c h) (p : LineSe
         let later : passed c p.from (on_wire p) now ≡ carried c p.from (on_wire p) now =
         when-=-not _ _ no_reset ∙ when-≠ _ _ (λ (e : c.stage ≡ 1). omega (arith, open-h.stage, holds.stage)) in
         rw later
-        record { stage = stage-after; fins = fins-after; ends = ap (λ (l : List End). ends_after l p.from (on_wire p)) holds.ends ∙ records-after }
+        record {
+          stage = stage-after;
+          fins = fins-after;
+          ends = (λ k. ends_after (holds.ends k) p.from (on_wire p) (window_same c h holds p side k)) ∙ records-after;
+          shifts = rw (offers-stay h p open-h.stage 0 (omega arith), offers-stay h p open-h.stage 1 (omega arith)) holds.shifts;
+          offers = rw (offers-stay h p open-h.stage 0 (omega arith), offers-stay h p open-h.stage 1 (omega arith)) holds.offers;
+        }
 
     pub carried-answered : Answered (p ∷ h)
     carried-answered =
@@ -225,9 +249,9 @@ module _ (h : List LineSegment) (p : LineSegment) (is_reset : rst p.flags ≡ 1)
   reset-numbers i =
       let none : ((p.from =ᵇ i) && (rst p.flags ≠ᵇ 1)) ≡ false = rw (eq-eqb (rst p.flags) 1 is_reset) (and-false (p.from =ᵇ i)) in
       let end : max (numbers_of i h).end (end_by i p) ≡ (numbers_of i h).end = ap (max (numbers_of i h).end) (when-false _ _ _ none) ∙ omega arith in
-      let edge : max (numbers_of i h).edge (edge_by i p) ≡ (numbers_of i h).edge =
+      let edge : max (numbers_of i h).edge (edge_by i (window_after h p) p) ≡ (numbers_of i h).edge =
       ap (max (numbers_of i h).edge) (when-true _ _ _ (rw (eq-eqb (rst p.flags) 1 is_reset))) ∙ omega arith in
-      let win : max (numbers_of i h).win (window_by i p) ≡ (numbers_of i h).win = ap (max (numbers_of i h).win) (when-false _ _ _ none) ∙ omega arith in
+      let win : max (numbers_of i h).win (window_by i (window_after h p) p) ≡ (numbers_of i h).win = ap (max (numbers_of i h).win) (when-false _ _ _ none) ∙ omega arith in
       λ k. record { end = end k; edge = edge k; win = win k }
 
   -- in stage 1 it frees
@@ -257,6 +281,8 @@ module _ (h : List LineSegment) (p : LineSegment) (is_reset : rst p.flags ≡ 1)
       stage = sym reset-stage;
       fins = holds.fins ∙ sym reset-fins;
       ends = rw (reset-numbers 0, reset-numbers 1) holds.ends;
+      shifts = rw (offers-stay h p open-h.stage 0 (omega arith), offers-stay h p open-h.stage 1 (omega arith)) holds.shifts;
+      offers = rw (offers-stay h p open-h.stage 0 (omega arith), offers-stay h p open-h.stage 1 (omega arith)) holds.offers;
     }
 
 -- what it leaves from stage 2 on
@@ -296,8 +322,8 @@ of-answerer i x true answerer e = refl
 of-answerer i x false answerer e = rw answerer at e
 
 -- the one of the two that is no reset
-pub syn-ack : (f : ℕ) → (rst f ≡ 1 → ⊥) → ((f =ᵇ SYN+ACK) || (f =ᵇ ACK+RST)) ≡ true → f ≡ SYN+ACK
-syn-ack f no_reset e = by (eqb f SYN+ACK) refl e
+pub syn_ack : (f : ℕ) → (rst f ≡ 1 → ⊥) → ((f =ᵇ SYN+ACK) || (f =ᵇ ACK+RST)) ≡ true → f ≡ SYN+ACK
+syn_ack f no_reset e = by (eqb f SYN+ACK) refl e
   where
     by : (t : Bool) → eqb f SYN+ACK ≡ t → (t || (f =ᵇ ACK+RST)) ≡ true → f ≡ SYN+ACK
     by true p q = eqb-true f SYN+ACK p
@@ -331,8 +357,9 @@ module _ (c : Connection) (h : List LineSegment) (holds : Holds c h) (p : LineSe
     opener-after =
         let octet : p.length ≡ 1 = formed.syn_alone (rw again.0) in
         let end : max (numbers_of 0 h).end (p.start + p.length) ≡ (numbers_of 0 h).end = omega (arith, octet, again.1) in
+        let win = ap (max (numbers_of 0 h).win) (syn-unscaled (offer_in h) p (rw again.0)) in
         numbers-sender h p no_reset 0 opener (omega (arith, octet, again.1, unanswered.no-grant))
-        ∙ λ k. record { end = end k; edge = (numbers_of 0 h).edge; win = max (numbers_of 0 h).win p.window }
+        ∙ λ k. record { end = end k; edge = (numbers_of 0 h).edge; win = win k }
 
     answerer-after : numbers_of 1 (p ∷ h) ≡ record { end = 0; edge = 0; win = 1 }
     answerer-after =
@@ -341,6 +368,12 @@ module _ (c : Connection) (h : List LineSegment) (holds : Holds c h) (p : LineSe
 
     fins-again : fins_of (p ∷ h) ≡ 0
     fins-again = fins-unanswered h p no_reset unanswered.stage (λ (e : fin p.flags ≡ 1). omega (arith, again.0)) ∙ unanswered.fins
+
+    openers-stays : offer_in (p ∷ h) 0 ≡ offer_in h 0
+    openers-stays = opener-keeps h p unanswered.stage
+
+    answerers-stays : offer_in (p ∷ h) 1 ≡ offer_in h 1
+    answerers-stays = offer-theirs h p 1 (λ (e : p.from ≡ 1). omega arith)
 
     pub repeated-holds : (now : ℕ) → Holds (passed c p.from (on_wire p) now) (p ∷ h)
     unfolding passed repeated
@@ -352,6 +385,8 @@ module _ (c : Connection) (h : List LineSegment) (holds : Holds c h) (p : LineSe
           stage = sym (stage-repeated h p no_reset unanswered.stage opener);
           fins = sym fins-again;
           ends = rw (opener-after, answerer-after, holds.ends, unanswered.unheard);
+          shifts = rw (openers-stays, answerers-stays) holds.shifts;
+          offers = rw (openers-stays, answerers-stays) holds.offers;
         }
 
     pub repeated-unanswered : Unanswered (p ∷ h)
@@ -367,6 +402,7 @@ module _ (c : Connection) (h : List LineSegment) (holds : Holds c h) (p : LineSe
       };
       no-grant = rw opener-after unanswered.no-grant;
       unheard = answerer-after;
+      no-offer = answerers-stays ∙ unanswered.no-offer;
     }
 
   -- the SYN+ACK
@@ -375,7 +411,7 @@ module _ (c : Connection) (h : List LineSegment) (holds : Holds c h) (p : LineSe
     unfolding judge_unanswered same_syn_on_line reply_on_line
     reply =
         let b = &&-true (eqb p.acked (numbers_of 0 h).end) ((p.flags =ᵇ SYN+ACK) || (p.flags =ᵇ ACK+RST)) (of-answerer p.from _ _ answerer (allowed _ (sym judged-by-three ∙ pass))) in
-        (eqb-true _ _ b.0, syn-ack p.flags no_reset b.1)
+        (eqb-true _ _ b.0, syn_ack p.flags no_reset b.1)
 
     acks : ack p.flags ≡ 1
     acks = rw reply.1
@@ -383,17 +419,25 @@ module _ (c : Connection) (h : List LineSegment) (holds : Holds c h) (p : LineSe
     not-opener : p.from ≡ 0 → ⊥
     not-opener e = omega arith
 
-    opener-raised : granted (on_ring (numbers_of 0 h)) (on_wire p) ≡ on_ring (numbers_of 0 (p ∷ h))
+    -- a SYN's window counts as it is
+    unscaled : window_after h p ≡ p.window
+    unscaled = syn-unscaled (offer_in h) p (rw reply.1)
+
+    opener-after-reply : numbers_of 0 (p ∷ h) ≡ granted_to (numbers_of 0 h) (p.acked + max p.window 1)
+    opener-after-reply =
+        numbers-acked h p no_reset 0 not-opener acks ∙ ap (λ (w : ℕ). granted_to (numbers_of 0 h) (p.acked + max w 1)) unscaled
+
+    opener-raised : granted (on_ring (numbers_of 0 h)) (on_wire p) (count p.window) ≡ on_ring (numbers_of 0 (p ∷ h))
     opener-raised =
         let all : p.acked ≤ (numbers_of 0 h).end = omega (arith, reply.0) in
-        let near = ack-near ack_range ack_range-small (numbers_of 0 h) p.acked all (omega (arith, reply.0)) in
-        granted-line (numbers_of 0 h) unanswered.opener p near all formed.window_fits
-        ∙ ap on_ring (sym (numbers-acked h p no_reset 0 not-opener acks))
+        let near = ack-near 0 (omega arith) (numbers_of 0 h) p.acked all (omega (arith, reply.0)) in
+        granted-line (numbers_of 0 h) unanswered.opener p (count p.window) near all (omega (arith, formed.window_fits))
+        ∙ ap on_ring (sym opener-after-reply)
 
     opener-spans : Spans (numbers_of 0 (p ∷ h))
     opener-spans =
-        rw (numbers-acked h p no_reset 0 not-opener acks)
-        (granted_to-spans (numbers_of 0 h) p.acked p.window unanswered.opener (omega (arith, reply.0)) formed.window_fits)
+        rw opener-after-reply
+        (granted_to-spans (numbers_of 0 h) p.acked p.window unanswered.opener (omega (arith, reply.0)) (omega (arith, formed.window_fits)))
 
     -- the answerer's line begins
     pub answerer-begins : numbers_of 1 (p ∷ h) ≡ record { end = p.start + 1; edge = p.start + 1; win = max 1 p.window }
@@ -404,22 +448,30 @@ module _ (c : Connection) (h : List LineSegment) (holds : Holds c h) (p : LineSe
         let octet : p.length ≡ 1 = formed.syn_alone (rw reply.1) in
         let end : max (numbers_of 1 h).end (p.start + p.length) ≡ p.start + 1 = omega (arith, no_end, octet) in
         let edge : max (numbers_of 1 h).edge (p.start + p.length) ≡ p.start + 1 = omega (arith, no_edge, octet) in
-        let win = ap (λ (x : Numbers). max x.win p.window) none in
+        let win : max (numbers_of 1 h).win (window_after h p) ≡ max 1 p.window = λ k. max (none k).win (unscaled k) in
         numbers-syn h p no_reset 1 answerer (rw reply.1) ∙ λ k. record { end = end k; edge = edge k; win = win k }
+
+    openers-kept : offer_in (p ∷ h) 0 ≡ offer_in h 0
+    openers-kept = offer-theirs h p 0 not-opener
+
+    pub answerers-made : offer_in (p ∷ h) 1 ≡ p.offer
+    answerers-made = answer-offers h p answerer unanswered.stage
 
     pub answered-holds : (now : ℕ) → Holds (passed c p.from (on_wire p) now) (p ∷ h)
     unfolding passed answered
     answered-holds now =
         let second : passed c p.from (on_wire p) now ≡ answered c (on_wire p) now =
         when-=-not _ _ no_reset ∙ when-≠-not _ _ (holds.stage ∙ unanswered.stage) ∙ when-=-not _ _ not-opener in
-        let opener : granted (sender c.ends 0) (on_wire p) ≡ on_ring (numbers_of 0 (p ∷ h)) =
-        ap (λ (l : List End). granted (sender l 0) (on_wire p)) holds.ends ∙ opener-raised in
+        let opener : granted (sender c.ends 0) (on_wire p) (count p.window) ≡ on_ring (numbers_of 0 (p ∷ h)) =
+        ap (λ (l : List End). granted (sender l 0) (on_wire p) (count p.window)) holds.ends ∙ opener-raised in
         let answerer : begun (on_wire p) ≡ on_ring (numbers_of 1 (p ∷ h)) = begun-line p ∙ ap on_ring (sym answerer-begins) in
         rw second
         record {
           stage = sym (stage-answered h p no_reset unanswered.stage not-opener);
           fins = sym (fins-unanswered h p no_reset unanswered.stage (λ (e : fin p.flags ≡ 1). omega (arith, reply.1)) ∙ unanswered.fins);
           ends = λ k. opener k ∷ answerer k ∷ [];
+          shifts = rw (openers-kept, answerers-made, holds.shifts);
+          offers = rw (openers-kept, answerers-made, holds.offers, unanswered.no-offer, none-bit) (omega (arith, offer_bit≤1 (offer_in h 0)));
         }
 
     pub answered-answered : Answered (p ∷ h)
@@ -450,7 +502,8 @@ module _ (p : LineSegment) (opener : p.from ≡ 0) (a-syn : p.flags ≡ SYN) (fo
   opener-begins =
       let octet : p.length ≡ 1 = formed.syn_alone (rw a-syn) in
       let end : max 0 (p.start + p.length) ≡ p.start + 1 = omega arith in
-      numbers-syn [] p no-reset-syn 0 opener (rw a-syn) ∙ λ k. record { end = end k; edge = end k; win = max 1 p.window }
+      let win = ap (max 1) (syn-unscaled (offer_in []) p (rw a-syn)) in
+      numbers-syn [] p no-reset-syn 0 opener (rw a-syn) ∙ λ k. record { end = end k; edge = end k; win = win k }
 
   answerer-unheard : numbers_of 1 (p ∷ []) ≡ record { end = 0; edge = 0; win = 1 }
   unfolding numbers_of
@@ -463,6 +516,14 @@ module _ (p : LineSegment) (opener : p.from ≡ 0) (a-syn : p.flags ≡ SYN) (fo
   fins-opened : fins_of (p ∷ []) ≡ 0
   unfolding fins_of fins_after
   fins-opened = when-=-not _ _ no-reset-syn ∙ when-=-not _ _ (λ (e : fin p.flags ≡ 1). omega arith)
+
+  pub openers-first : offer_in (p ∷ []) 0 ≡ p.offer
+  unfolding stage_of
+  openers-first = opening-offers [] p opener refl
+
+  none-answered : offer_in (p ∷ []) 1 ≡ no_offer
+  unfolding offer_in
+  none-answered = offer-theirs [] p 1 (λ (e : p.from ≡ 1). omega arith)
 
   pub opened-unanswered : Unanswered (p ∷ [])
   opened-unanswered = record {
@@ -477,11 +538,18 @@ module _ (p : LineSegment) (opener : p.from ≡ 0) (a-syn : p.flags ≡ SYN) (fo
     };
     no-grant = rw opener-begins;
     unheard = answerer-unheard;
+    no-offer = none-answered;
   }
 
   pub opened-holds : (side now : ℕ) → Holds (opened side (on_wire p) now) (p ∷ [])
   unfolding opened
   opened-holds side now =
-      let opener-record : begun (on_wire p) ≡ on_ring (numbers_of 0 (p ∷ [])) = begun-line p ∙ ap on_ring (sym opener-begins) in
-      let answerer-record : unheard ≡ on_ring (numbers_of 1 (p ∷ [])) = unheard-line ∙ ap on_ring (sym answerer-unheard) in
-      record { stage = sym stage-opened; fins = sym fins-opened; ends = λ k. opener-record k ∷ answerer-record k ∷ [] }
+      let opener_record : begun (on_wire p) ≡ on_ring (numbers_of 0 (p ∷ [])) = begun-line p ∙ ap on_ring (sym opener-begins) in
+      let answerer_record : unheard ≡ on_ring (numbers_of 1 (p ∷ [])) = unheard-line ∙ ap on_ring (sym answerer-unheard) in
+      record {
+        stage = sym stage-opened;
+        fins = sym fins-opened;
+        ends = λ k. opener_record k ∷ answerer_record k ∷ [];
+        shifts = rw (openers-first, none-answered, none_kept);
+        offers = rw (openers-first, none-answered, none-bit) (omega arith);
+      }

@@ -19,10 +19,11 @@ use Rattle.connection.specs.Decision.{verdict_number, opened}
 use Rattle.connection.specs.declared.Verdict.{Verdict}
 use Rattle.connection.specs.declared.Verdict.TheVariants.{Pass, SequenceMissed, AckMissed}
 use Rattle.history.specs.Numbers.{bounds_i_ii, bounds_iii_iv}
-use Rattle.history.specs.History.{LineSegment, numbers_of, stage_of, stands_by, placed, judge_unanswered, judge, Placeable}
+use Rattle.history.specs.History.{LineSegment, offer_in, shift_by, numbers_of, stage_of, stands_by, placed, judge_unanswered, judge, Placeable}
 use Rattle.history.specs.Places.{MetFrom, AcksAt, ByAllPlaces}
 use Rattle.history.specs.Demand2.{connection_after, history_after, opening_history, Uniqueness}
-use Rattle.history.proofs.Step.{Near, start-near, ack-near, ack_range-small}
+use Rattle.history.proofs.Scaling.{range_small, shift_by≤}
+use Rattle.history.proofs.Step.{Near, start-near, ack-near}
 use Rattle.history.proofs.Verdict.{Answered, spans}
 use Rattle.history.proofs.Demand2.{stands-nearest, wrap-stands, Reached, unanswered, answered, judged, after-all, holds-first, reached-first}
 
@@ -91,11 +92,14 @@ module _
   abbrev acked : ℕ
   acked = stands_by (numbers_of (1 - i) h).end g.ack.0
 
+  abbrev range : ℕ
+  range = ack_range (shift_by (offer_in h) i)
+
   abbrev x : Bool
   x = bounds_i_ii (numbers_of i h) (numbers_of (1 - i) h) start g.octets.0
 
   abbrev y : Bool
-  y = bounds_iii_iv ack_range (numbers_of (1 - i) h) acked
+  y = bounds_iii_iv range (numbers_of (1 - i) h) acked
 
   judged-by : judge h (placed h i g) ≡ by_tests x (ack g.flags =ᵇ 1) y
   unfolding judge
@@ -107,7 +111,7 @@ module _
 
   acked-is : (A : ℕ) → AcksAt h i g A → A ≡ acked
   acked-is A m =
-      ack-only h both-heard (1 - i) (omega arith) (turned (1 - i) (omega arith)) ack_range ack_range-small A m.bounds
+      ack-only h both-heard (1 - i) (omega arith) (turned (1 - i) (omega arith)) range (range_small _ (shift_by≤ (offer_in h) i)) A m.bounds
       ∙ ap (stands_by (numbers_of (1 - i) h).end) m.number
 
   -- a test holds at the place given exactly where it holds at some place
@@ -124,7 +128,7 @@ module _
   }
 
   acks : (A : ℕ) → AcksAt h i g A → y ≡ true
-  acks A m = ap (bounds_iii_iv ack_range (numbers_of (1 - i) h)) (sym (acked-is A m)) ∙ m.bounds
+  acks A m = ap (bounds_iii_iv range (numbers_of (1 - i) h)) (sym (acked-is A m)) ∙ m.bounds
 
   judged-by-all-places : ByAllPlaces h i g (verdict_number (judge h (placed h i g)))
   judged-by-all-places =

@@ -1,5 +1,5 @@
 -- Every pass and every opening gives a sound connection from a sound one, whatever the traffic.
-use Prim.Native.Nat.{ℕ, zero, suc, ◌+◌, ◌-◌, ◌^◌, ◌<◌, ◌≤◌}
+use Prim.Native.Nat.{ℕ, zero, suc, ◌+◌, ◌-◌, ◌/◌, ◌^◌, ◌<◌, ◌≤◌}
 use mathlib.Core.Path.{◌≡◌, refl, sym, ap, ◌∙◌}
 use mathlib.Core.Bool.{Bool, true, false, ◌||◌}
 use mathlib.Core.Logic.{inl, inr}
@@ -10,25 +10,28 @@ use borrow.Author.Tests.{leb-true, eq-eqb, eqb-true, eqb-false}
 use Rattle.choice.specs.Choice.{◌≤ᵇ◌, ◌=ᵇ◌}
 use Rattle.choice.proofs.Choice.{when-true, when-false, when-=, when-=-not, when-≠, when-≠-not}
 use Rattle.choice.proofs.Tests.{&&-true}
-use Rattle.serial.specs.Ring.{wrap, ring_plus, ring_minus}
+use Rattle.serial.specs.Ring.{wrap, ring_plus, ring_minus, largest_window}
+use Rattle.serial.specs.declared.OctetCount.{OctetCount}
 use Rattle.serial.proofs.Ring.{wrap-injective, wrap-minus, wrap-counted, wrap-turn, wrap-id}
 use Rattle.segment.specs.Flags.{rst, ack, SYN+ACK, ACK+RST}
 use Rattle.segment.specs.declared.Segment.{Segment}
-use Rattle.connection.specs.Ends.{sender, receiver, sent, granted, begun, ends_after}
+use Rattle.connection.specs.Scaling.{largest_shift, offer_bit, shift_of, shift_in_force, effective_window}
+use Rattle.connection.specs.Ends.{count, sender, receiver, sent, granted, begun, ends_after}
 use Rattle.connection.specs.Ranges.{sequence_met, ack_range, ack_met}
 use Rattle.connection.specs.Stages.{fins_after, stage_after}
 use Rattle.connection.specs.Decision.{opened, repeated, answered, carried, reset, passed, same_syn, reply, verdict_unanswered, verdict_by_ranges, verdict_on}
-use Rattle.connection.specs.Sound.{sound_end, sound_unanswered, sound_connection}
+use Rattle.connection.specs.Sound.{sound_end, sound_unanswered, sound_answer, sound_connection}
 use Rattle.connection.specs.declared.Connection.{Connection}
 use Rattle.connection.specs.declared.End.{End}
 use Rattle.connection.specs.declared.Verdict.TheVariants.{Pass}
 use Rattle.connection.proofs.Stages.{stage_after≥2}
-use Rattle.connection.proofs.Sound.{sound_fins-to-3, sound_fins≤3, fins_after≤3, stage_after-sound, reset-sound, sound_end-true, true-sound_end, widened-sound, unheard-sound, life_of≤, Facts, sound-facts, facts-sound}
+use Rattle.connection.proofs.Sound.{sound_fins-to-3, sound_fins≤3, fins_after≤3, stage_after-sound, reset-sound, sound_end-true, true-sound_end, widened-sound, unheard-sound, shifts_fit, in-force≤, offer_bit≤1, opened-offers, answered-offers, life_of≤, Facts, sound-facts, facts-sound}
 use Rattle.history.specs.Numbers.{Numbers, on_ring}
 use Rattle.history.specs.History.{LineSegment, on_wire, placed_by, Formed}
 use Rattle.history.specs.Kept.{OpenedSound, PassedSound}
 use Rattle.history.specs.Records.{SeqNumsFit, TwoEnds}
-use Rattle.history.proofs.Step.{Spans, Near, sequence-line, ack_range-small, ack-line, sent-line, granted-line, sent_to-spans, granted_to-spans}
+use Rattle.history.proofs.Scaling.{range_small, effective≤}
+use Rattle.history.proofs.Step.{Spans, Near, sequence-line, ack-line, sent-line, granted-line, sent_to-spans, granted_to-spans}
 use Rattle.history.proofs.Verdict.{two-sender, two-receiver}
 use Rattle.history.proofs.Pass.{begun-line, ranges-met, allowed, of-answerer, passed-reset}
 use Rattle.history.proofs.Demand2.{stands-near, on_wire-placed_by, placed-formed, pick_two}
@@ -58,12 +61,13 @@ spans-sound x s =
 
 -- an end that gets a right edge by an acknowledgement of no more than it sent
 granted-sound :
-    (e : End) (p : LineSegment) → SeqNumsFit e → Formed p → sound_end e ≡ true → Near (lifted e).end p.acked → p.acked ≤ (lifted e).end →
-    sound_end (granted e (on_wire p)) ≡ true
-granted-sound e p f formed sound near below =
+    (e : End) (p : LineSegment) (w : OctetCount) → SeqNumsFit e → w.0 ≤ largest_window → sound_end e ≡ true → Near (lifted e).end p.acked →
+    p.acked ≤ (lifted e).end →
+    sound_end (granted e (on_wire p) w) ≡ true
+granted-sound e p w f most sound near below =
     let s = lifted-spans e sound in
-    let line = granted-line (lifted e) s p near below formed.window_fits in
-    rw (← on_ring-lifted e f, line) (spans-sound _ (granted_to-spans (lifted e) p.acked p.window s below formed.window_fits))
+    let line = granted-line (lifted e) s p w near below most in
+    rw (← on_ring-lifted e f, line) (spans-sound _ (granted_to-spans (lifted e) p.acked w.0 s below most))
 
 -- an end that a SYN opens
 begun-sound : (p : LineSegment) → Formed p → sound_end (begun (on_wire p)) ≡ true
@@ -75,16 +79,16 @@ begun-sound p formed =
 
 -- what holds of F and of T after it holds of both records
 both-after :
-    (P : End → Type 0) (x : ℕ → End) (i : ℕ) (g : Segment) → i < 2 → P (sent (x i) g) →
-    (ack g.flags ≡ 1 → P (granted (x (1 - i)) g)) → P (x (1 - i)) →
-    P (sender (ends_after (x 0 ∷ x 1 ∷ []) i g) 0) × P (sender (ends_after (x 0 ∷ x 1 ∷ []) i g) 1)
+    (P : End → Type 0) (x : ℕ → End) (i : ℕ) (g : Segment) (w : OctetCount) → i < 2 → P (sent (x i) g w) →
+    (ack g.flags ≡ 1 → P (granted (x (1 - i)) g w)) → P (x (1 - i)) →
+    P (sender (ends_after (x 0 ∷ x 1 ∷ []) i g w) 0) × P (sender (ends_after (x 0 ∷ x 1 ∷ []) i g w) 1)
 unfolding ends_after
-both-after P x i g side f t u = by-ack (eqb (ack g.flags) 1) refl i side f t u
+both-after P x i g w side f t u = by-ack (eqb (ack g.flags) 1) refl i side f t u
   where
     by-ack :
-        (b : Bool) → eqb (ack g.flags) 1 ≡ b → (i : ℕ) → i < 2 → P (sent (x i) g) →
-        (ack g.flags ≡ 1 → P (granted (x (1 - i)) g)) → P (x (1 - i)) →
-        P (sender (ends_after (x 0 ∷ x 1 ∷ []) i g) 0) × P (sender (ends_after (x 0 ∷ x 1 ∷ []) i g) 1)
+        (b : Bool) → eqb (ack g.flags) 1 ≡ b → (i : ℕ) → i < 2 → P (sent (x i) g w) →
+        (ack g.flags ≡ 1 → P (granted (x (1 - i)) g w)) → P (x (1 - i)) →
+        P (sender (ends_after (x 0 ∷ x 1 ∷ []) i g w) 0) × P (sender (ends_after (x 0 ∷ x 1 ∷ []) i g w) 1)
     by-ack true e zero s f t u = rw (when-true (eqb (ack g.flags) 1) _ _ e) (f, t (eqb-true _ _ e))
     by-ack true e (suc zero) s f t u = rw (when-true (eqb (ack g.flags) 1) _ _ e) (t (eqb-true _ _ e), f)
     by-ack false e zero s f t u = rw (when-false (eqb (ack g.flags) 1) _ _ e) (f, u)
@@ -104,6 +108,19 @@ module _ (clock : ℕ) (c : Connection) (x : ℕ → End) (ends : TwoEnds c x) (
     other-side : 1 - p.from < 2
     other-side = omega arith
 
+    -- the range and the window by the sender's shift
+    shift_fits : shift_in_force c p.from ≤ largest_shift
+    shift_fits = in-force≤ c (shifts_fit c sound.offers) p.from side
+
+    abbrev range : ℕ
+    range = ack_range (shift_in_force c p.from)
+
+    abbrev w : OctetCount
+    w = effective_window (shift_in_force c p.from) (on_wire p)
+
+    w≤ : w.0 ≤ largest_window
+    w≤ = effective≤ (shift_in_force c p.from) (on_wire p) formed.window_fits shift_fits
+
     F : Spans (lifted (x p.from))
     F = lifted-spans (x p.from) (sound-end p.from side)
 
@@ -116,11 +133,11 @@ module _ (clock : ℕ) (c : Connection) (x : ℕ → End) (ends : TwoEnds c x) (
     is_t : on_ring (lifted (x (1 - p.from))) ≡ x (1 - p.from)
     is_t = on_ring-lifted (x (1 - p.from)) (fits (1 - p.from) other-side)
 
-    met : (sequence_met (x p.from) (x (1 - p.from)) (on_wire p) ≡ true) × (eqb (ack p.flags) 1 ≡ true → ack_met ack_range (x (1 - p.from)) (on_wire p) ≡ true)
+    met : (sequence_met (x p.from) (x (1 - p.from)) (on_wire p) ≡ true) × (eqb (ack p.flags) 1 ≡ true → ack_met range (x (1 - p.from)) (on_wire p) ≡ true)
     unfolding verdict_on verdict_by_ranges
     met =
         rw (ap (λ (l : List End). sender l p.from) ends.two ∙ two-sender x p.from side, ap (λ (l : List End). receiver l p.from) ends.two ∙ two-receiver x p.from side) at
-        (ranges-met (sequence_met (sender c.ends p.from) (receiver c.ends p.from) (on_wire p)) (eqb (ack p.flags) 1) (ack_met ack_range (receiver c.ends p.from) (on_wire p)) (sym (when-=-not _ _ later) ∙ pass))
+        (ranges-met (sequence_met (sender c.ends p.from) (receiver c.ends p.from) (on_wire p)) (eqb (ack p.flags) 1) (ack_met range (receiver c.ends p.from) (on_wire p)) (sym (when-=-not _ _ later) ∙ pass))
 
     bounds : ((lifted (x p.from)).end ≤ p.start + (lifted (x (1 - p.from))).win) × (p.start + p.length ≤ (lifted (x p.from)).edge)
     bounds =
@@ -130,24 +147,24 @@ module _ (clock : ℕ) (c : Connection) (x : ℕ → End) (ends : TwoEnds c x) (
 
     acked-below : ack p.flags ≡ 1 → p.acked ≤ (lifted (x (1 - p.from))).end
     acked-below acks =
-        let line = ack-line (lifted (x (1 - p.from))) T p ack_range ack_range-small acked in
+        let line = ack-line (lifted (x (1 - p.from))) T p range (range_small _ shift_fits) acked in
         leb-true _ _ (&&-true (p.acked ≤ᵇ (lifted (x (1 - p.from))).end) _ (sym line ∙ rw is_t (met.1 (eq-eqb _ _ acks)))).0
 
-    sent-sound : sound_end (sent (x p.from) (on_wire p)) ≡ true
+    sent-sound : sound_end (sent (x p.from) (on_wire p) w) ≡ true
     sent-sound =
-        let line = sent-line (lifted (x p.from)) (lifted (x (1 - p.from))) F T p bounds.0 bounds.1 in
-        rw (← is_f, line) (spans-sound _ (sent_to-spans (lifted (x p.from)) (p.start + p.length) p.window F bounds.1 formed.window_fits))
+        let line = sent-line (lifted (x p.from)) (lifted (x (1 - p.from))) F T p w bounds.0 bounds.1 in
+        rw (← is_f, line) (spans-sound _ (sent_to-spans (lifted (x p.from)) (p.start + p.length) w.0 F bounds.1 w≤))
 
-    other-sound : ack p.flags ≡ 1 → sound_end (granted (x (1 - p.from)) (on_wire p)) ≡ true
-    other-sound acks = granted-sound (x (1 - p.from)) p (fits (1 - p.from) other-side) formed (sound-end (1 - p.from) other-side) acked (acked-below acks)
+    other-sound : ack p.flags ≡ 1 → sound_end (granted (x (1 - p.from)) (on_wire p) w) ≡ true
+    other-sound acks = granted-sound (x (1 - p.from)) p w (fits (1 - p.from) other-side) w≤ (sound-end (1 - p.from) other-side) acked (acked-below acks)
 
     carried-sound : (rst p.flags ≡ 1 → ⊥) → sound_connection now (passed c p.from (on_wire p) now) ≡ true
-    unfolding passed carried sound_unanswered
+    unfolding passed carried sound_unanswered sound_answer
     carried-sound no_reset =
         let g = on_wire p in
         let fins = fins_after≤3 c.fins p.from p.flags (sound_fins≤3 c.stage c.fins sound.fins) in
         let stage = stage_after-sound c.stage (fins_after c.fins p.from p.flags) p.from p.flags fins in
-        let records = both-after (λ e. sound_end e ≡ true) x p.from g side sent-sound other-sound (sound-end (1 - p.from) other-side) in
+        let records = both-after (λ e. sound_end e ≡ true) x p.from g w side sent-sound other-sound (sound-end (1 - p.from) other-side) in
         let goes : passed c p.from g now ≡ carried c p.from g now = when-=-not _ _ no_reset ∙ when-≠ _ _ later in
         rw goes
         (facts-sound now (carried c p.from g now) record {
@@ -156,14 +173,16 @@ module _ (clock : ℕ) (c : Connection) (x : ℕ → End) (ends : TwoEnds c x) (
           side = sound.side;
           fins = stage.bits;
           deadline = omega (arith, life_of≤ (stage_after c.stage (fins_after c.fins p.from p.flags) p.from p.flags));
-          opener = rw ends.two records.0;
-          answerer = rw ends.two records.1;
+          opener = ap (λ (l : List End). sound_end (sender (ends_after l p.from g w) 0)) ends.two ∙ records.0;
+          answerer = ap (λ (l : List End). sound_end (sender (ends_after l p.from g w) 1)) ends.two ∙ records.1;
           unanswered = when-=-not _ _ (λ (e : stage_after c.stage (fins_after c.fins p.from p.flags) p.from p.flags ≡ 1). omega (arith, stage_after≥2 c.stage (fins_after c.fins p.from p.flags) p.from p.flags));
+          offers = sound.offers;
+          answer = when-=-not _ _ (λ (e : stage_after c.stage (fins_after c.fins p.from p.flags) p.from p.flags ≡ 1). omega (arith, stage_after≥2 c.stage (fins_after c.fins p.from p.flags) p.from p.flags));
         })
 
   -- a reset leaves the records as they are
   reset-leaves-sound : 2 ≤ c.stage → rst p.flags ≡ 1 → sound_connection now (passed c p.from (on_wire p) now) ≡ true
-  unfolding reset sound_unanswered
+  unfolding reset sound_unanswered sound_answer
   reset-leaves-sound later is_reset =
       let stage = reset-sound c.fins (sound_fins≤3 c.stage c.fins sound.fins) in
       rw (passed-reset c p.from (on_wire p) now is_reset later)
@@ -176,6 +195,8 @@ module _ (clock : ℕ) (c : Connection) (x : ℕ → End) (ends : TwoEnds c x) (
         opener = sound.opener;
         answerer = sound.answerer;
         unanswered = when-=-not {a = 6} {b = 1} _ _ (λ (e : 6 ≡ 1). omega arith);
+        offers = sound.offers;
+        answer = when-=-not {a = 6} {b = 1} _ _ (λ (e : 6 ≡ 1). omega arith);
       })
 
   -- the same SYN again, and the SYN+ACK
@@ -191,9 +212,11 @@ module _ (clock : ℕ) (c : Connection) (x : ℕ → End) (ends : TwoEnds c x) (
           side = sound.side;
           fins = sound_fins-to-3 1 0 (omega arith);
           deadline = omega (arith, life_of≤ 1);
-          opener = rw ends.two (widened-sound (x 0) p.window formed.window_fits (sound-end 0 (omega arith)));
+          opener = rw ends.two (widened-sound (x 0) p.window (omega (arith, formed.window_fits)) (sound-end 0 (omega arith)));
           answerer = rw ends.two (sound-end 1 (omega arith));
           unanswered = rw ends.two (rw (first, ends.two) at sound.unanswered);
+          offers = sound.offers;
+          answer = rw first at sound.answer;
         })
 
     -- the SYN+ACK acknowledges just what the opener sent
@@ -206,7 +229,7 @@ module _ (clock : ℕ) (c : Connection) (x : ℕ → End) (ends : TwoEnds c x) (
         wrap-injective p.acked (lifted (x 0)).end (acked ∙ same) (omega (arith, near.high)) (omega (arith, near.low))
 
     answered-sound : p.from ≡ 1 → Near (lifted (x 0)).end p.acked → sound_connection now (passed c p.from (on_wire p) now) ≡ true
-    unfolding passed answered sound_unanswered
+    unfolding passed answered sound_unanswered sound_answer
     answered-sound answerer near =
         let goes : passed c p.from (on_wire p) now ≡ answered c (on_wire p) now = when-=-not _ _ no_reset ∙ when-≠-not _ _ first ∙ when-=-not _ _ (λ (e : p.from ≡ 0). omega arith) in
         rw goes
@@ -216,9 +239,11 @@ module _ (clock : ℕ) (c : Connection) (x : ℕ → End) (ends : TwoEnds c x) (
           side = sound.side;
           fins = sound_fins-to-3 2 0 (omega arith);
           deadline = omega (arith, life_of≤ 2);
-          opener = rw ends.two (granted-sound (x 0) p ends.opener formed (sound-end 0 (omega arith)) near (omega (arith, acks-end answerer near)));
+          opener = rw ends.two (granted-sound (x 0) p (count p.window) ends.opener (omega (arith, formed.window_fits)) (sound-end 0 (omega arith)) near (omega (arith, acks-end answerer near)));
           answerer = begun-sound p formed;
           unanswered = when-=-not {a = 2} {b = 1} _ _ (λ (e : 2 ≡ 1). omega arith);
+          offers = answered-offers c.offers (shift_of c 0) (shift_of c 1) p.offer sound.offers;
+          answer = when-=-not {a = 2} {b = 1} _ _ (λ (e : 2 ≡ 1). omega arith);
         })
 
   by-stage :
@@ -255,7 +280,7 @@ module _ (clock : ℕ) (c : Connection) (x : ℕ → End) (ends : TwoEnds c x) (
 
 -- an opening is sound
 pub opened-sound : OpenedSound
-unfolding opened sound_unanswered
+unfolding opened sound_unanswered sound_answer
 opened-sound side g now known r =
     let wire = on_wire-placed_by 0 0 0 g r (inl refl) (inl refl) in
     facts-sound now (opened side g now) record {
@@ -267,6 +292,8 @@ opened-sound side g now known r =
       opener = ap (λ (k : Segment). sound_end (begun k)) (sym wire) ∙ begun-sound (placed_by 0 0 0 g) (placed-formed 0 0 0 g r);
       answerer = unheard-sound;
       unanswered = when-= {a = 1} {b = 1} _ _ refl ∙ rw (eq-eqb (ring_plus g.seq.0 1) (ring_plus g.seq.0 1) refl);
+      offers = opened-offers g.offer;
+      answer = when-= {a = 1} {b = 1} _ _ refl ∙ eq-eqb (offer_bit g.offer / 2) 0 (omega (arith, offer_bit≤1 g.offer));
     }
 
 -- a pass of a sound connection leaves it sound, unless it frees it

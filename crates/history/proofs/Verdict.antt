@@ -12,14 +12,17 @@ use Rattle.choice.proofs.Tests.{eqb≡eqb}
 use Rattle.serial.specs.Ring.{wrap, ring_minus}
 use Rattle.serial.proofs.Ring.{wrap-back, wrap-eqb}
 use Rattle.segment.specs.Flags.{ack, SYN, SYN+ACK, ACK+RST}
+use Rattle.segment.specs.Offers.{no_offer}
+use Rattle.connection.specs.Scaling.{shift_in_force}
 use Rattle.connection.specs.Ends.{sender, receiver}
 use Rattle.connection.specs.Ranges.{sequence_met, ack_range, ack_met}
 use Rattle.connection.specs.Decision.{same_syn, reply, verdict_unanswered, verdict_by_ranges, verdict_on}
 use Rattle.connection.specs.declared.Connection.{Connection}
 use Rattle.connection.specs.declared.End.{End}
 use Rattle.history.specs.Numbers.{on_ring, bounds_i_ii, bounds_iii_iv}
-use Rattle.history.specs.History.{LineSegment, numbers_of, stage_of, fins_of, on_wire, same_syn_on_line, reply_on_line, judge_unanswered, judge, Holds}
-use Rattle.history.proofs.Step.{Spans, Near, sequence-line, ack_range-small, ack-line}
+use Rattle.history.specs.History.{LineSegment, offer_in, shift_by, numbers_of, stage_of, fins_of, on_wire, same_syn_on_line, reply_on_line, judge_unanswered, judge, Holds}
+use Rattle.history.proofs.Scaling.{range_small, shift_by≤, shift_same}
+use Rattle.history.proofs.Step.{Spans, Near, sequence-line, ack-line}
 
 -- where a history stands: the opening SYN unanswered, or both ends heard
 pub record Unanswered (h : List LineSegment) : Type 0 where
@@ -28,6 +31,7 @@ pub record Unanswered (h : List LineSegment) : Type 0 where
   pub opener : Spans (numbers_of 0 h)
   pub no-grant : (numbers_of 0 h).edge ≡ (numbers_of 0 h).end
   pub unheard : numbers_of 1 h ≡ record { end = 0; edge = 0; win = 1 }
+  pub no-offer : offer_in h 1 ≡ no_offer
 
 pub record Answered (h : List LineSegment) : Type 0 where
   pub stage : 2 ≤ stage_of h
@@ -67,15 +71,15 @@ module _ (c : Connection) (h : List LineSegment) (holds : Holds c h) (p : LineSe
         rw (holds.ends, two-sender (λ k. on_ring (numbers_of k h)) p.from side, two-receiver (λ k. on_ring (numbers_of k h)) p.from side)
         (sequence-line (numbers_of p.from h) (numbers_of (1 - p.from) h) F T p start)
 
-    ack-judged : ((ack p.flags =ᵇ 1) && not (ack_met ack_range (receiver c.ends p.from) (on_wire p))) ≡ ((ack p.flags =ᵇ 1) && not (bounds_iii_iv ack_range (numbers_of (1 - p.from) h) p.acked))
+    ack-judged : ((ack p.flags =ᵇ 1) && not (ack_met (ack_range (shift_in_force c p.from)) (receiver c.ends p.from) (on_wire p))) ≡ ((ack p.flags =ᵇ 1) && not (bounds_iii_iv (ack_range (shift_by (offer_in h) p.from)) (numbers_of (1 - p.from) h) p.acked))
     ack-judged = by-ack (eqb (ack p.flags) 1) refl
       where
         by-ack :
             (t : Bool) → eqb (ack p.flags) 1 ≡ t →
-            (t && not (ack_met ack_range (receiver c.ends p.from) (on_wire p))) ≡ (t && not (bounds_iii_iv ack_range (numbers_of (1 - p.from) h) p.acked))
+            (t && not (ack_met (ack_range (shift_in_force c p.from)) (receiver c.ends p.from) (on_wire p))) ≡ (t && not (bounds_iii_iv (ack_range (shift_by (offer_in h) p.from)) (numbers_of (1 - p.from) h) p.acked))
         by-ack true e =
-            rw (holds.ends, two-receiver (λ k. on_ring (numbers_of k h)) p.from side)
-            (ap not (ack-line (numbers_of (1 - p.from) h) T p ack_range ack_range-small (acked (eqb-true _ _ e))))
+            rw (shift_same c h holds p.from side, holds.ends, two-receiver (λ k. on_ring (numbers_of k h)) p.from side)
+            (ap not (ack-line (numbers_of (1 - p.from) h) T p (ack_range (shift_by (offer_in h) p.from)) (range_small _ (shift_by≤ (offer_in h) p.from)) (acked (eqb-true _ _ e))))
         by-ack false e = refl
 
     pub judged-answered : verdict_on c p.from (on_wire p) ≡ judge h p
@@ -88,8 +92,8 @@ module _ (c : Connection) (h : List LineSegment) (holds : Holds c h) (p : LineSe
   -- in stage 1
   module _ (unanswered : Unanswered h) (start : p.from ≡ 0 → Near (numbers_of 0 h).end p.start) (acked : p.from ≡ 1 → Near (numbers_of 0 h).end p.acked) where
     -- s = opener end − 1, on the ring and on the line
-    syn-again : p.from ≡ 0 → eqb (wrap p.start) (ring_minus (wrap (numbers_of 0 h).end) 1) ≡ eqb (p.start + 1) (numbers_of 0 h).end
-    syn-again opener =
+    syn_again : p.from ≡ 0 → eqb (wrap p.start) (ring_minus (wrap (numbers_of 0 h).end) 1) ≡ eqb (p.start + 1) (numbers_of 0 h).end
+    syn_again opener =
         let some = unanswered.opener.begun in
         ap (eqb (wrap p.start)) (wrap-back (numbers_of 0 h).end 1 some (omega arith))
         ∙ wrap-eqb (numbers_of 0 h).end p.start ((numbers_of 0 h).end - 1)
@@ -109,7 +113,7 @@ module _ (c : Connection) (h : List LineSegment) (holds : Holds c h) (p : LineSe
         by_opener :
             (t : Bool) → eqb p.from 0 ≡ t →
             (t && ((p.flags =ᵇ SYN) && (wrap p.start =ᵇ ring_minus (sender c.ends 0).end.0 1))) ≡ (t && ((p.flags =ᵇ SYN) && (p.start + 1 =ᵇ (numbers_of 0 h).end)))
-        by_opener true e = rw (holds.ends, syn-again (eqb-true _ _ e))
+        by_opener true e = rw (holds.ends, syn_again (eqb-true _ _ e))
         by_opener false e = refl
 
     same-reply : reply c p.from (on_wire p) ≡ reply_on_line h p

@@ -68,7 +68,7 @@ NoneFreed h (o ∷ l) =
 abbrev pub opening_history : Segment → List LineSegment
 opening_history g = placed [] opener g ∷ []
 
--- a connection and a history agree: on the six numbers, FIN bits and stage, and on the answer to o; and a reset that passes in stage 1 frees
+-- a connection and a history agree: on the six numbers, FIN bits, stage and offers, and on the answer to o; and a reset that passes in stage 1 frees
 pub record Agree (c : Connection) (h : List LineSegment) (o : Presented) : Type 0 where
   pub holds : Holds c h
   pub answer : answer_to c o ≡ judged_over h o

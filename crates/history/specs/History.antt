@@ -1,16 +1,19 @@
 -- A history: the segments that passed on one connection, on the unwrapped line, newest first. The last is the opening SYN.
--- Its numbers, its window, bounds I to IV and the order of 13, 14 and 15 are its own. Shared with `connection` by definition are segments and
--- their flags, the two ends, the verdicts with their numbers, the ring of 2^32 with the nearest place on the line (on which `further` rests), the
--- constants 66,000 and 65,535, and, as the bounds say nothing of them, the FIN bits and the stage after a segment from stage 2 on (`fins_after`,
--- `stage_after`), a stage's life (`life_of`) and a freed record (`zeros`); over tables, all of `rows` but the verdict and what a pass leaves.
-use Rattle.std.specs.Prelude.{ℕ, ◌+◌, ◌^◌, ◌<◌, ◌≤◌, max, ◌≡◌, Bool, ◌&&◌, ◌||◌, not, List, [], ◌∷◌}
-use Rattle.choice.specs.Choice.{when◌then◌else◌, ◌≤ᵇ◌, ◌=ᵇ◌, ◌≠ᵇ◌}
+-- Its numbers, its windows as they count, its range, bounds I to IV and the order of 13, 14 and 15 are its own. Shared with `connection` by
+-- definition are segments and their flags, the two ends, the verdicts with their numbers, the ring of 2^32 with the nearest place on the line (on
+-- which `further` rests) and, as the bounds say nothing of them, the FIN bits and the stage after a segment from stage 2 on (`fins_after`,
+-- `stage_after`), a stage's life (`life_of`), what an entry keeps of an offer (`kept_shift`, `offer_bit`) and a freed record (`zeros`); over tables,
+-- all of `rows` but the verdict and what a pass leaves.
+use Rattle.std.specs.Prelude.{ℕ, ◌+◌, ◌*◌, ◌^◌, ◌<◌, ◌≤◌, max, ◌≡◌, Bool, ◌&&◌, ◌||◌, not, List, [], ◌∷◌}
+use Rattle.choice.specs.Choice.{when◌then◌else◌, ◌<ᵇ◌, ◌≤ᵇ◌, ◌=ᵇ◌, ◌≠ᵇ◌}
 use Rattle.serial.specs.Ring.{nearest}
 use Rattle.serial.specs.Serial.{seq_at}
 use Rattle.segment.specs.Flags.{syn, is_reset, ack, SYN, SYN+ACK, ACK+RST}
+use Rattle.segment.specs.Offers.{no_offer}
+use Rattle.segment.specs.declared.Offer.{Offer}
 use Rattle.segment.specs.declared.Segment.{Segment}
+use Rattle.connection.specs.Scaling.{kept_shift, offer_bit}
 use Rattle.connection.specs.Ends.{count, opener, answerer, other_end}
-use Rattle.connection.specs.Ranges.{ack_range, widest}
 use Rattle.connection.specs.Stages.{fins_after, stage_after}
 use Rattle.connection.specs.declared.Connection.{Connection}
 use Rattle.connection.specs.declared.Verdict.{Verdict}
@@ -25,37 +28,20 @@ pub record LineSegment : Type 0 where
   -- n: payload octets plus one each for SYN and FIN
   pub length : ℕ
   pub acked : ℕ
+  -- as the wire has it
   pub window : ℕ
+  -- what a SYN offers
+  pub offer : Offer
 
 -- the segment as the wire has it
 abbrev pub on_wire : LineSegment → Segment
-on_wire g = record { seq = seq_at g.start; ack = seq_at g.acked; window = count g.window; flags = g.flags; octets = count g.length }
-
--- The six numbers: maxima over the history, in which a reset counts for nothing
-
--- the end of i's segment
-abbrev pub end_by : ℕ → LineSegment → ℕ
-end_by i g = when (g.from =ᵇ i) && not (is_reset g.flags) then g.start + g.length else 0
-
--- the right edge that i gets by it: a + max(w, 1) of the other end's, or the end of its own SYN, with which it begins (a later
--- SYN's end counts too, and bound I keeps it at or below the edge)
-abbrev pub edge_by : ℕ → LineSegment → ℕ
-edge_by i g =
-    when is_reset g.flags then 0
-    else when g.from =ᵇ i then (when syn g.flags =ᵇ 1 then g.start + g.length else 0)
-    else when ack g.flags =ᵇ 1 then g.acked + max g.window 1
-    else 0
-
-abbrev pub window_by : ℕ → LineSegment → ℕ
-window_by i g = when (g.from =ᵇ i) && not (is_reset g.flags) then g.window else 0
-
--- highest end, highest edge and largest window; 0, 0, 1 over no segment
-unfoldable pub numbers_of : ℕ → List LineSegment → Numbers
-numbers_of i [] = record { end = 0; edge = 0; win = 1 }
-numbers_of i (g ∷ h) = record {
-  end = max (numbers_of i h).end (end_by i g);
-  edge = max (numbers_of i h).edge (edge_by i g);
-  win = max (numbers_of i h).win (window_by i g);
+on_wire g = record {
+  seq = seq_at g.start;
+  ack = seq_at g.acked;
+  window = g.window;
+  flags = g.flags;
+  octets = count g.length;
+  offer = g.offer;
 }
 
 -- FIN bits and stage, by the rules under "Stages"; a reset stays in the history for the stage alone (document 02, item 6)
@@ -74,6 +60,64 @@ stage_of (g ∷ h) =
     else when g.from =ᵇ opener then 1
     else 2
 
+-- Windows as they count (document 02, item 8)
+
+-- the opener offers with the opening SYN, before which the stage is 0, the answerer with the SYN+ACK that answers it, in stage 1; what comes
+-- later is a repeat
+abbrev pub offers_in : (stage i : ℕ) → Bool
+offers_in stage i = stage =ᵇ (when i =ᵇ opener then 0 else 1)
+
+-- what end i offered: "Offers on a repeated SYN change nothing"
+unfoldable pub offer_in : List LineSegment → ℕ → Offer
+offer_in [] i = no_offer
+offer_in (g ∷ h) i = when (g.from =ᵇ i) && offers_in (stage_of h) i then g.offer else offer_in h i
+
+-- end i's shift, by what each end offered: "0 unless both offered", and "a shift above 14 counts as 14"
+unfoldable pub shift_by : (ℕ → Offer) → ℕ → ℕ
+shift_by offer i =
+    when not ((offer opener).made && (offer answerer).made) then 0
+    else when 14 <ᵇ (offer i).shift then 14
+    else (offer i).shift
+
+-- "Acknowledgement range: 66,000·2^k, k the acknowledging end's shift"
+abbrev pub range_under : (ℕ → Offer) → ℕ → ℕ
+range_under offer i = 66000 * 2 ^ shift_by offer i
+
+-- "windows of segments without SYN are shifted by their sender's shift"
+unfoldable pub window_under : (ℕ → Offer) → LineSegment → ℕ
+window_under offer g = when syn g.flags =ᵇ 1 then g.window else g.window * 2 ^ shift_by offer g.from
+
+-- w of a segment that passes after h
+abbrev pub window_after : List LineSegment → LineSegment → ℕ
+window_after h g = window_under (offer_in h) g
+
+-- The six numbers: maxima over the history, in which a reset counts for nothing
+
+-- the end of i's segment
+abbrev pub end_by : ℕ → LineSegment → ℕ
+end_by i g = when (g.from =ᵇ i) && not (is_reset g.flags) then g.start + g.length else 0
+
+-- the right edge that i gets by it: a + max(w, 1) of the other end's, or the end of its own SYN, with which it begins (a later
+-- SYN's end counts too, and bound I keeps it at or below the edge)
+abbrev pub edge_by : (i w : ℕ) → LineSegment → ℕ
+edge_by i w g =
+    when is_reset g.flags then 0
+    else when g.from =ᵇ i then (when syn g.flags =ᵇ 1 then g.start + g.length else 0)
+    else when ack g.flags =ᵇ 1 then g.acked + max w 1
+    else 0
+
+abbrev pub window_by : (i w : ℕ) → LineSegment → ℕ
+window_by i w g = when (g.from =ᵇ i) && not (is_reset g.flags) then w else 0
+
+-- highest end, highest edge and largest window; 0, 0, 1 over no segment
+unfoldable pub numbers_of : ℕ → List LineSegment → Numbers
+numbers_of i [] = record { end = 0; edge = 0; win = 1 }
+numbers_of i (g ∷ h) = record {
+  end = max (numbers_of i h).end (end_by i g);
+  edge = max (numbers_of i h).edge (edge_by i (window_after h g) g);
+  win = max (numbers_of i h).win (window_by i (window_after h g) g);
+}
+
 -- The next segment
 
 -- the place on the line of sequence number s, for an end whose highest end so far is E: the whole number nearest to E that has
@@ -90,7 +134,8 @@ placed_by E E' i g = record {
   start = stands_by E g.seq.0;
   length = g.octets.0;
   acked = stands_by E' g.ack.0;
-  window = g.window.0;
+  window = g.window;
+  offer = g.offer;
 }
 
 abbrev pub placed : List LineSegment → ℕ → Segment → LineSegment
@@ -113,18 +158,28 @@ unfoldable pub judge : List LineSegment → LineSegment → Verdict
 judge h p =
     when stage_of h =ᵇ 1 then judge_unanswered h p
     else when not (bounds_i_ii (numbers_of p.from h) (numbers_of (other_end p.from) h) p.start p.length) then SequenceMissed
-    else when (ack p.flags =ᵇ 1) && not (bounds_iii_iv ack_range (numbers_of (other_end p.from) h) p.acked) then AckMissed
+    else when (ack p.flags =ᵇ 1) && not (bounds_iii_iv (range_under (offer_in h) p.from) (numbers_of (other_end p.from) h) p.acked) then AckMissed
     else Pass
 
--- The connection holds exactly those numbers modulo 2^32, and the FIN bits and stage of the history
+-- what an entry keeps of the two offers, and who made them, as bits
+
+abbrev pub shifts_of : List LineSegment → List ℕ
+shifts_of h = kept_shift (offer_in h opener) ∷ kept_shift (offer_in h answerer) ∷ []
+
+abbrev pub offers_of : List LineSegment → ℕ
+offers_of h = offer_bit (offer_in h opener) + 2 * offer_bit (offer_in h answerer)
+
+-- The connection holds exactly those numbers modulo 2^32, and the FIN bits, the stage and the offers of the history
 pub record Holds (c : Connection) (h : List LineSegment) : Type 0 where
   pub stage : c.stage ≡ stage_of h
   pub fins : c.fins ≡ fins_of h
   pub ends : c.ends ≡ on_ring (numbers_of opener h) ∷ on_ring (numbers_of answerer h) ∷ []
+  pub shifts : c.shifts ≡ shifts_of h
+  pub offers : c.offers ≡ offers_of h
 
 -- well formed: a 16-bit window, and a SYN alone, without payload
 pub record Formed (p : LineSegment) : Type 0 where
-  pub window_fits : p.window ≤ widest
+  pub window_fits : p.window ≤ 65535
   pub syn_alone : syn p.flags ≡ 1 → p.length ≡ 1
 
 -- fit for a place on the line: 32-bit numbers, a 16-bit window, and a SYN alone, without payload. Every segment that the packet
@@ -132,5 +187,5 @@ pub record Formed (p : LineSegment) : Type 0 where
 pub record Placeable (g : Segment) : Type 0 where
   pub seq_fits : g.seq.0 < 2 ^ 32
   pub ack_fits : g.ack.0 < 2 ^ 32
-  pub window_fits : g.window.0 ≤ widest
+  pub window_fits : g.window ≤ 65535
   pub syn_alone : syn g.flags ≡ 1 → g.octets.0 ≡ 1

@@ -5,9 +5,8 @@ use Rattle.serial.specs.Ring.{wrap}
 use Rattle.segment.specs.Flags.{ack}
 use Rattle.segment.specs.declared.Segment.{Segment}
 use Rattle.connection.specs.Ends.{other_end}
-use Rattle.connection.specs.Ranges.{ack_range}
 use Rattle.history.specs.Numbers.{bounds_i_ii, bounds_iii_iv}
-use Rattle.history.specs.History.{LineSegment, numbers_of, placed}
+use Rattle.history.specs.History.{LineSegment, offer_in, range_under, numbers_of, placed}
 
 -- a segment g of sender i, after a history h
 module _ (h : List LineSegment) (i : ℕ) (g : Segment) where
@@ -19,7 +18,7 @@ module _ (h : List LineSegment) (i : ℕ) (g : Segment) where
   -- A, a place with its acknowledgement number, meets III and IV
   pub record AcksAt (A : ℕ) : Type 0 where
     pub number : wrap A ≡ g.ack.0
-    pub bounds : bounds_iii_iv ack_range (numbers_of (other_end i) h) A ≡ true
+    pub bounds : bounds_iii_iv (range_under (offer_in h) i) (numbers_of (other_end i) h) A ≡ true
 
   -- what an answer says of them, from stage 2 on
   pub record ByAllPlaces (answer : ℕ) : Type 0 where

@@ -1,6 +1,6 @@
 -- An arrival of an honest segment at its live entry: it passes, and the entry that it leaves holds the history with it on top.
-use Prim.Native.Nat.{ℕ, zero, suc, ◌+◌, ◌-◌, ◌<◌, ◌≤◌}
-use mathlib.Core.Path.{◌≡◌, refl, ap, ◌∙◌}
+use Prim.Native.Nat.{ℕ, zero, suc, ◌+◌, ◌-◌, ◌*◌, ◌^◌, ◌<◌, ◌≤◌}
+use mathlib.Core.Path.{◌≡◌, refl, sym, ap, ◌∙◌}
 use mathlib.Core.Bool.{Bool, true, false}
 use mathlib.Core.List.{List, ◌∷◌}
 use native.Mathlib.Omega.{arith}
@@ -9,20 +9,21 @@ use borrow.Author.Tests.{eqb-true, eqb-false}
 use Rattle.choice.proofs.Choice.{when-either, when-cases, when-≤}
 use Rattle.segment.specs.Flags.{rst, is_reset, ack}
 use Rattle.segment.specs.declared.Segment.{Segment}
-use Rattle.connection.specs.Ranges.{ack_range, widest}
+use Rattle.connection.specs.Ranges.{ack_range}
 use Rattle.connection.specs.Stages.{life_of, fins_after}
 use Rattle.connection.specs.Decision.{verdict_on, free, passed, opened, carried, repeated, answered, reset}
 use Rattle.connection.specs.declared.Connection.{Connection}
 use Rattle.connection.specs.declared.Verdict.TheVariants.{Pass}
 use Rattle.connection.proofs.Stages.{1≤life_of, stage_after≥2, stage_after≤5}
 use Rattle.history.specs.Numbers.{Numbers}
-use Rattle.history.specs.History.{LineSegment, numbers_of, on_wire, judge, Holds}
-use Rattle.history.proofs.Step.{Near, start-near, ack-near, ack_range-small}
+use Rattle.history.specs.History.{LineSegment, offer_in, shift_by, window_under, window_after, numbers_of, on_wire, judge, Holds}
+use Rattle.history.proofs.Scaling.{range_small, shift_by≤, syn-unscaled, opener-keeps, offer-theirs, offers-stay, window_under-same}
+use Rattle.history.proofs.Step.{Near, start-near, ack-near}
 use Rattle.history.proofs.Verdict.{Unanswered, Answered, spans, judged-answered, judged-unanswered}
-use Rattle.history.proofs.Pass.{carried-holds, carried-answered, repeated-holds, repeated-unanswered, answered-holds, answered-answered, answerer-begins}
+use Rattle.history.proofs.Pass.{carried-holds, carried-answered, repeated-holds, repeated-unanswered, answered-holds, answered-answered, answerer-begins, answerers-made}
 use Rattle.honest.specs.Rules.{Event, Pair, overtaking_allowance}
 use Rattle.honest.proofs.Lists.{NoReset}
-use Rattle.honest.proofs.Sends.{SentWith, InOrderAmong, First, Fact, Protocol, rises-more}
+use Rattle.honest.proofs.Sends.{SentWith, InOrderAmong, First, Fact, first-facts, Protocol, rises-more}
 use Rattle.honest.proofs.Bounds as Bounds
 
 -- What a pass that does not free leaves of side and deadline
@@ -61,8 +62,16 @@ passed-renewed c i g now kept =
 -- Where the connection stands: only the opener's SYN has passed, or both ends' have
 
 pub data Heard (P : Pair) (h : List LineSegment) : Type 0 where
-  quiet : Unanswered h → P.start 0 + 1 ≤ (numbers_of 0 h).end → Heard P h
-  both : Answered h → ((i : ℕ) → i < 2 → P.start i + 1 ≤ (numbers_of i h).end) → Heard P h
+  quiet : Unanswered h → P.start 0 + 1 ≤ (numbers_of 0 h).end → offer_in h 0 ≡ P.offer 0 → Heard P h
+  both :
+      Answered h → ((i : ℕ) → i < 2 → P.start i + 1 ≤ (numbers_of i h).end) → ((i : ℕ) → i < 2 → offer_in h i ≡ P.offer i) →
+      Heard P h
+
+-- once both have been heard, offers stay
+pub still-agreed :
+    (P : Pair) (h : List LineSegment) (p : LineSegment) → Answered h → ((i : ℕ) → i < 2 → offer_in h i ≡ P.offer i) → (i : ℕ) → i < 2 →
+    offer_in (p ∷ h) i ≡ P.offer i
+still-agreed P h p a agreed i known = offers-stay h p a.stage i known ∙ agreed i known
 
 module _
     {Call : Type 0} (P : Pair) (h : List LineSegment) (Arrived : ℕ → LineSegment → Type 0) (L : List (Event Call))
@@ -75,42 +84,49 @@ module _
     pub verdict : verdict_on c p.from (on_wire p) ≡ Pass
     pub holds_after : (now : ℕ) → Holds (passed c p.from (on_wire p) now) (p ∷ h)
     pub heard-after : Heard P (p ∷ h)
+    pub counts : window_after h p ≡ window_under P.offer p
 
   -- from stage 2 on
-  module _ (ordered : InOrderAmong Arrived overtaking_allowance k p L) (a : Answered h) (begun : (i : ℕ) → i < 2 → P.start i + 1 ≤ (numbers_of i h).end) where
+  module _
+      (ordered : InOrderAmong Arrived (overtaking_allowance P p.from) k p L) (a : Answered h)
+      (begun : (i : ℕ) → i < 2 → P.start i + 1 ≤ (numbers_of i h).end) (agreed : (i : ℕ) → i < 2 → offer_in h i ≡ P.offer i) where
+    abbrev shift : ℕ
+    shift = shift_by P.offer p.from
+
     -- the allowance is what the range has past the largest window
-    fits : widest + overtaking_allowance ≤ ack_range
+    fits : 65535 * 2 ^ shift + overtaking_allowance P p.from ≤ ack_range shift
     fits = omega arith
 
     other-known : 1 - p.from < 2
     other-known = omega (arith, fact.end_known)
 
     pass : judge h p ≡ Pass
-    pass = Bounds.judged-pass P h Arrived L inv overtaking_allowance k p s sent no_reset ordered fits a begun
+    pass = Bounds.judged-pass P h Arrived L inv (overtaking_allowance P p.from) k p s sent no_reset ordered fits a begun agreed
 
     near : Near (numbers_of p.from h).end p.start
     near =
         start-near (numbers_of p.from h) (numbers_of (1 - p.from) h) p.start p.length
         (spans h a p.from fact.end_known) (spans h a (1 - p.from) other-known)
-        (Bounds.bound-II P h Arrived L inv overtaking_allowance k p s sent no_reset ordered fits a begun)
-        (Bounds.bound-I P h Arrived L inv overtaking_allowance k p s sent no_reset ordered fits a begun)
+        (Bounds.bound-II P h Arrived L inv (overtaking_allowance P p.from) k p s sent no_reset ordered fits a begun agreed)
+        (Bounds.bound-I P h Arrived L inv (overtaking_allowance P p.from) k p s sent no_reset ordered fits a begun agreed)
 
     near-ack : ack p.flags ≡ 1 → Near (numbers_of (1 - p.from) h).end p.acked
     near-ack acks =
-        ack-near ack_range ack_range-small (numbers_of (1 - p.from) h) p.acked
-        (Bounds.bound-III P h Arrived L inv overtaking_allowance k p s sent no_reset ordered fits a begun acks)
-        (Bounds.bound-IV P h Arrived L inv overtaking_allowance k p s sent no_reset ordered fits a begun acks)
+        ack-near (ack_range shift) (range_small shift (shift_by≤ P.offer p.from)) (numbers_of (1 - p.from) h) p.acked
+        (Bounds.bound-III P h Arrived L inv (overtaking_allowance P p.from) k p s sent no_reset ordered fits a begun agreed acks)
+        (Bounds.bound-IV P h Arrived L inv (overtaking_allowance P p.from) k p s sent no_reset ordered fits a begun agreed acks)
 
     later-passing : Passing
     later-passing = record {
       verdict = judged-answered c h holds p fact.end_known a near near-ack ∙ pass;
       holds_after = carried-holds c h holds p fact.end_known fact.formed fact.no_reset pass a;
       heard-after = both (carried-answered c h holds p fact.end_known fact.formed fact.no_reset pass a)
-          (λ i known. omega (arith, begun i known, (rises-more p h).end i));
+          (λ i known. omega (arith, begun i known, (rises-more p h).end i)) (still-agreed P h p a agreed);
+      counts = window_under-same (offer_in h) P.offer agreed p fact.end_known;
     }
 
   -- in stage 1
-  module _ (u : Unanswered h) (begun : P.start 0 + 1 ≤ (numbers_of 0 h).end) where
+  module _ (u : Unanswered h) (begun : P.start 0 + 1 ≤ (numbers_of 0 h).end) (agreed : offer_in h 0 ≡ P.offer 0) where
     first-pass : judge h p ≡ Pass
     first-pass = Bounds.judged-first P h Arrived L inv u begun k p s sent no_reset
 
@@ -129,6 +145,12 @@ module _
         (λ answerer. record { low = omega (arith, x.rule.acks answerer, opener-end); high = omega (arith, x.rule.acks answerer, opener-end) })
         ∙ first-pass
 
+    -- a first segment is a SYN
+    first-counts : window_after h p ≡ window_under P.offer p
+    first-counts =
+        let a-syn = (first-facts P p fact.formed x.rule).a-syn in
+        syn-unscaled (offer_in h) p a-syn ∙ sym (syn-unscaled P.offer p a-syn)
+
     first-passing : Passing
     first-passing = by_end (eqb p.from 0) refl
       where
@@ -138,16 +160,25 @@ module _
             record {
               verdict = first-verdict;
               holds_after = repeated-holds c h holds p fact.formed first-pass u opener;
-              heard-after = quiet (repeated-unanswered c h holds p fact.formed first-pass u opener) (omega (arith, begun, (rises-more p h).end 0));
+              heard-after = quiet (repeated-unanswered c h holds p fact.formed first-pass u opener) (omega (arith, begun, (rises-more p h).end 0))
+                  (opener-keeps h p u.stage ∙ agreed);
+              counts = first-counts;
             }
         by_end false e =
             let answerer : p.from ≡ 1 = omega (arith, eqb-false p.from 0 e, fact.end_known) in
             record {
               verdict = first-verdict;
               holds_after = answered-holds c h holds p fact.formed first-pass u answerer fact.no_reset;
-              heard-after = both (answered-answered c h holds p fact.formed first-pass u answerer fact.no_reset) (begun-both answerer);
+              heard-after = both (answered-answered c h holds p fact.formed first-pass u answerer fact.no_reset) (begun-both answerer) (agreed-both answerer);
+              counts = first-counts;
             }
           where
+            agreed-both : p.from ≡ 1 → (i : ℕ) → i < 2 → offer_in (p ∷ h) i ≡ P.offer i
+            agreed-both answerer zero known = offer-theirs h p 0 (λ e. omega arith) ∙ agreed
+            agreed-both answerer (suc zero) known =
+                answerers-made c h holds p fact.formed first-pass u answerer fact.no_reset ∙ x.rule.offer ∙ ap P.offer answerer
+            agreed-both answerer (suc (suc i)) known = absurd (omega arith)
+
             begun-both : p.from ≡ 1 → (i : ℕ) → i < 2 → P.start i + 1 ≤ (numbers_of i (p ∷ h)).end
             begun-both answerer zero known = omega (arith, begun, (rises-more p h).end 0)
             begun-both answerer (suc zero) known =
@@ -156,6 +187,6 @@ module _
                 omega (arith, end, x.rule.start)
             begun-both answerer (suc (suc i)) known = absurd (omega arith)
 
-  pub passing : InOrderAmong Arrived overtaking_allowance k p L → Heard P h → Passing
-  passing ordered (quiet u begun) = first-passing u begun
-  passing ordered (both a begun) = later-passing ordered a begun
+  pub passing : InOrderAmong Arrived (overtaking_allowance P p.from) k p L → Heard P h → Passing
+  passing ordered (quiet u begun agreed) = first-passing u begun agreed
+  passing ordered (both a begun agreed) = later-passing ordered a begun agreed

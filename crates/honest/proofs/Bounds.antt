@@ -1,24 +1,26 @@
 -- Bounds I to IV at an arrival of an honest segment, and stage 1's three segments.
-use Prim.Native.Nat.{ℕ, zero, suc, ◌+◌, ◌-◌, ◌<◌, ◌≤◌}
+use Prim.Native.Nat.{ℕ, zero, suc, ◌+◌, ◌-◌, ◌*◌, ◌^◌, ◌<◌, ◌≤◌}
 use mathlib.Core.Path.{◌≡◌, refl, sym, ap, subst, ◌∙◌}
 use mathlib.Core.Logic.{⊎_elim}
 use mathlib.Core.Bool.{Bool, true, false, ◌&&◌, ◌||◌, not}
 use mathlib.Core.List.{List}
 use native.Mathlib.Omega.{arith}
 use lib.Dec.{eqb}
+use lib.Pow.{pow_pos}
 use borrow.Author.Tests.{eq-eqb, eqb-true, eqb-false, le-leb}
 use Rattle.choice.specs.Choice.{when◌then◌else◌, ◌=ᵇ◌}
 use Rattle.choice.proofs.Choice.{when-true, when-false, when-=, when-=-not}
 use Rattle.choice.proofs.Tests.{lt-or-ge}
 use Rattle.segment.specs.Flags.{ack, SYN, SYN+ACK}
-use Rattle.connection.specs.Ranges.{ack_range, widest}
+use Rattle.connection.specs.Ranges.{ack_range}
 use Rattle.connection.specs.declared.Verdict.TheVariants.{Pass, AckMissed}
 use Rattle.history.specs.Numbers.{Numbers, bounds_i_ii, bounds_iii_iv}
-use Rattle.history.specs.History.{LineSegment, numbers_of, stage_of, judge, same_syn_on_line, reply_on_line, judge_unanswered, Formed}
+use Rattle.history.specs.History.{LineSegment, offer_in, shift_by, numbers_of, stage_of, judge, same_syn_on_line, reply_on_line, judge_unanswered, Formed}
+use Rattle.history.proofs.Scaling.{window≤, shift_by-same}
 use Rattle.history.proofs.Step.{Spans}
 use Rattle.history.proofs.Verdict.{Unanswered, Answered, spans}
 use Rattle.honest.specs.Rules.{Event, Pair, highest, ack_of, end_of, highest_ack_at_sending, has_answer}
-use Rattle.honest.proofs.Lists.{In, NoReset, highest-lub, end_by-mine, numbers_up, end-lub}
+use Rattle.honest.proofs.Lists.{In, NoReset, highest-lub, end_by-mine, numbers_up, end-lub, win-lub}
 use Rattle.honest.proofs.Sends.{SentWith, snapshot-received, InOrderAmong, ack_from, Later, First, Fact, Protocol, FirstFacts, first-facts, answered-in, passed-sent}
 
 module _
@@ -64,8 +66,12 @@ module _
             f.kind
 
     module _
-        (fits : widest + allowance ≤ ack_range) (both-heard : Answered h)
-        (begun : (i : ℕ) → i < 2 → P.start i + 1 ≤ (numbers_of i h).end) where
+        (fits : 65535 * 2 ^ shift_by P.offer p.from + allowance ≤ ack_range (shift_by P.offer p.from)) (both-heard : Answered h)
+        (begun : (i : ℕ) → i < 2 → P.start i + 1 ≤ (numbers_of i h).end) (agreed : (i : ℕ) → i < 2 → offer_in h i ≡ P.offer i) where
+      -- the acknowledging end's shift
+      abbrev shift : ℕ
+      shift = shift_by P.offer p.from
+
       F : Spans (numbers_of p.from h)
       F = spans h both-heard p.from fact.end_known
 
@@ -117,9 +123,18 @@ module _
           let begins : P.start g.from ≡ P.start (1 - p.from) = ap P.start other in
           omega (arith, f.in_window, f.snapshot-passed, fact.acks_syn acks))
 
-      pub bound-IV : ack p.flags ≡ 1 → (numbers_of (1 - p.from) h).end ≤ p.acked + ack_range
+      -- no window of this end that has passed is larger than 65,535 under its shift
+      largest-window : (numbers_of p.from h).win ≤ 65535 * 2 ^ shift
+      largest-window =
+          win-lub P.offer p.from (65535 * 2 ^ shift) (omega (arith, pow_pos shift)) h inv.counted (λ g there mine none.
+          let a = passed-sent P h Arrived L inv g there none in
+          let f = inv.facts a.0 g a.1 a.3 none in
+          let own : shift_by P.offer g.from ≡ shift = ap (shift_by P.offer) mine in
+          rw own at (window≤ P.offer g f.formed))
+
+      pub bound-IV : ack p.flags ≡ 1 → (numbers_of (1 - p.from) h).end ≤ p.acked + ack_range shift
       bound-IV acks =
-          ack-in-range widest ack_range fits F.win-most (highest-ack-near (λ g there none same acks'. (admitted g there none same).3 acks' acks)) acks
+          ack-in-range (65535 * 2 ^ shift) (ack_range shift) fits largest-window (highest-ack-near (λ g there none same acks'. (admitted g there none same).3 acks' acks)) acks
 
       pub judged-pass : judge h p ≡ Pass
       unfolding judge
@@ -127,14 +142,14 @@ module _
           let later : stage_of h ≡ 1 → ⊥ = λ (e : stage_of h ≡ 1). omega (arith, both-heard.stage) in
           let in-range : bounds_i_ii (numbers_of p.from h) (numbers_of (1 - p.from) h) p.start p.length ≡ true =
           rw (le-leb _ _ bound-I, le-leb _ _ bound-II) in
-          when-=-not _ _ later ∙ when-false _ _ _ (rw in-range) ∙ by-ack (eqb (ack p.flags) 1) refl
+          when-=-not _ _ later ∙ when-false _ _ _ (rw in-range) ∙ rw (shift_by-same (offer_in h) P.offer agreed p.from fact.end_known) (by-ack (eqb (ack p.flags) 1) refl)
         where
           by-ack :
               (t : Bool) → eqb (ack p.flags) 1 ≡ t →
-              (when (ack p.flags =ᵇ 1) && not (bounds_iii_iv ack_range (numbers_of (1 - p.from) h) p.acked) then AckMissed else Pass) ≡ Pass
+              (when (ack p.flags =ᵇ 1) && not (bounds_iii_iv (ack_range shift) (numbers_of (1 - p.from) h) p.acked) then AckMissed else Pass) ≡ Pass
           by-ack true e =
               let acks = eqb-true (ack p.flags) 1 e in
-              let in-range : bounds_iii_iv ack_range (numbers_of (1 - p.from) h) p.acked ≡ true =
+              let in-range : bounds_iii_iv (ack_range shift) (numbers_of (1 - p.from) h) p.acked ≡ true =
               rw (le-leb _ _ (bound-III acks), le-leb _ _ (bound-IV acks)) in
               when-false _ _ _ (rw (e, in-range))
           by-ack false e = when-false _ _ _ (rw e)
@@ -149,7 +164,7 @@ module _
         let a = passed-sent P h Arrived L inv r.0 there.0 r.2 in
         let f = inv.facts a.0 r.0 a.1 a.3 r.2 in
         let answerer : r.0.from ≡ 1 = omega (arith, f.end_known, there.1) in
-        let seen = rw (end_by-mine 1 r.0 f.no_reset answerer) at (numbers_up 1 r.0 h there.0).0 in
+        let seen = rw (end_by-mine 1 r.0 f.no_reset answerer) at (numbers_up P.offer 1 r.0 r.2 h inv.counted there.0).0 in
         let none = ap (λ (x : Numbers). x.end) quiet.unheard in
         let flags = r.4 refl in
         omega (arith, seen, none, f.formed.syn_alone (rw flags))

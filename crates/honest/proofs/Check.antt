@@ -13,13 +13,14 @@ use Rattle.address.specs.Flows.{same_flow}
 use Rattle.address.specs.declared.Flow.{Flow}
 use Rattle.address.proofs.Flows.{same_true}
 use Rattle.segment.specs.Flags.{syn, rst, is_reset, ack, SYN, SYN+ACK}
+use Rattle.segment.specs.declared.Offer.{Offer}
 use Rattle.segment.specs.declared.Segment.{Segment}
 use Rattle.connection.specs.Ends.{other_end}
-use Rattle.connection.specs.Ranges.{widest}
 use Rattle.rows.specs.Rows.{View, match_of}
 use Rattle.rows.specs.Connections.{connections}
 use Rattle.rows.specs.declared.Found.{Found}
 use Rattle.rows.specs.declared.Found.TheVariants.{At, Nothing}
+use Rattle.connection.specs.declared.End.{End}
 use Rattle.history.specs.History.{LineSegment, on_wire, stage_of, Formed}
 use Rattle.honest.specs.Machine.{asks, Machine}
 use Rattle.honest.specs.Rules.{Label, opening, arrival, other, IsArrivalOf, Event, send, call, delivery, Pair, side_of, key_of, sent_by, Sent, Arrived, received_by, highest, some, ack_of, edge_of, end_of, highest_ack_at_sending, MayOvertake, overtaking_allowance, has_answer, OpenersSyn, AnswerersSynAck, LaterSegment, AnyReset, Allowed, openers_syn, answerers_syn_ack, later, any_reset}
@@ -69,9 +70,20 @@ at_most m n = record { holds = m ≤ᵇ n; shows = leb-true m n }
 abbrev below : (m n : ℕ) → Test (m < n)
 below m n = record { holds = m <ᵇ n; shows = ltb-true m n }
 
+abbrev same : (s t : Bool) → Test (s ≡ t)
+same true true = yes refl
+same true false = no
+same false true = no
+same false false = yes refl
+
 abbrev nothing : (r : Found) → Test (r ≡ Nothing)
 nothing Nothing = yes refl
 nothing (At p) = no
+
+abbrev pub same_end : (x y : End) → Test (x ≡ y)
+same_end x y =
+    so (λ h i. record { end = record { 0 = h.0 i }; edge = record { 0 = h.1.0 i }; win = record { 0 = h.1.1 i } })
+    (both (equal x.end.0 y.end.0) (both (equal x.edge.0 y.edge.0) (equal x.win.0 y.win.0)))
 
 -- asked only where the first holds
 pub when-shows : {A : Type 0} (b : Bool) (t : Test A) → not b || t.holds ≡ true → b ≡ true → A
@@ -86,6 +98,11 @@ if_equal m n t = record { holds = not (m =ᵇ n) || t.holds; shows = λ e is. wh
 
 -- Segments
 
+abbrev same_offer : (o a : Offer) → Test (o ≡ a)
+same_offer o a =
+    so (λ h i. record { made = h.0 i; shift = h.1 i })
+    (both (same o.made a.made) (equal o.shift a.shift))
+
 abbrev same_line : (p g : LineSegment) → Test (p ≡ g)
 same_line p g =
     so (λ h i. record {
@@ -94,13 +111,15 @@ same_line p g =
       start = h.1.1.0 i;
       length = h.1.1.1.0 i;
       acked = h.1.1.1.1.0 i;
-      window = h.1.1.1.1.1 i;
+      window = h.1.1.1.1.1.0 i;
+      offer = h.1.1.1.1.1.1 i;
     })
     (both (equal p.from g.from)
     (both (equal p.flags g.flags)
     (both (equal p.start g.start)
     (both (equal p.length g.length)
-    (both (equal p.acked g.acked) (equal p.window g.window))))))
+    (both (equal p.acked g.acked)
+    (both (equal p.window g.window) (same_offer p.offer g.offer)))))))
 
 abbrev same_key : (j k : Flow) → Test (j ≡ k)
 same_key j k = so (same_true j k) (is_true (same_flow j k))
@@ -110,14 +129,16 @@ same_segment p g =
     so (λ h i. record {
       seq = record { 0 = h.0 i };
       ack = record { 0 = h.1.0 i };
-      window = record { 0 = h.1.1.0 i };
+      window = h.1.1.0 i;
       flags = h.1.1.1.0 i;
-      octets = record { 0 = h.1.1.1.1 i };
+      octets = record { 0 = h.1.1.1.1.0 i };
+      offer = h.1.1.1.1.1 i;
     })
     (both (equal p.seq.0 g.seq.0)
     (both (equal p.ack.0 g.ack.0)
-    (both (equal p.window.0 g.window.0)
-    (both (equal p.flags g.flags) (equal p.octets.0 g.octets.0)))))
+    (both (equal p.window g.window)
+    (both (equal p.flags g.flags)
+    (both (equal p.octets.0 g.octets.0) (same_offer p.offer g.offer))))))
 
 abbrev may_overtake : (allowance highest_ack : ℕ) (g p : LineSegment) → Test (MayOvertake allowance highest_ack g p)
 may_overtake allowance highest_ack g p =
@@ -127,7 +148,7 @@ may_overtake allowance highest_ack g p =
 abbrev formed : (p : LineSegment) → Test (Formed p)
 formed p =
     so (λ h. record { window_fits = h.0; syn_alone = h.1 })
-    (both (at_most p.window widest) (if_equal (syn p.flags) 1 (equal p.length 1)))
+    (both (at_most p.window 65535) (if_equal (syn p.flags) 1 (equal p.length 1)))
 
 -- Events
 
@@ -148,10 +169,11 @@ module _ (t₀ : View connections) (P : Pair) where
 
   abbrev openers_syn : (p : LineSegment) (L : Seen) → Test (OpenersSyn P p L)
   openers_syn p L =
-      so (λ h. record { by_opener = h.0; flags = h.1.0; start = h.1.1.0; until_syn_ack = h.1.1.1 })
+      so (λ h. record { by_opener = h.0; flags = h.1.0; start = h.1.1.0; offer = h.1.1.1.0; until_syn_ack = h.1.1.1.1 })
       (both (equal p.from 0)
       (both (equal p.flags SYN)
-      (both (equal p.start (P.start 0)) (is_false (has_answer 0 L)))))
+      (both (equal p.start (P.start 0))
+      (both (same_offer p.offer (P.offer 0)) (is_false (has_answer 0 L))))))
 
   abbrev answerers_syn_ack : (p : LineSegment) (L : Seen) → Test (AnswerersSynAck P p L)
   answerers_syn_ack p L =
@@ -160,14 +182,16 @@ module _ (t₀ : View connections) (P : Pair) where
         has_syn = h.1.0;
         flags = h.1.1.0;
         start = h.1.1.1.0;
-        acks_syn = h.1.1.1.1.0;
-        until_ack = h.1.1.1.1.1;
+        offer = h.1.1.1.1.0;
+        acks_syn = h.1.1.1.1.1.0;
+        until_ack = h.1.1.1.1.1.1;
       })
       (both (equal p.from 1)
       (both (is_true (some (λ g. g.flags =ᵇ SYN) (received_by 1 L)))
       (both (equal p.flags SYN+ACK)
       (both (equal p.start (P.start 1))
-      (both (equal p.acked (P.start 0 + 1)) (is_false (has_answer 1 L)))))))
+      (both (same_offer p.offer (P.offer 1))
+      (both (equal p.acked (P.start 0 + 1)) (is_false (has_answer 1 L))))))))
 
   abbrev later_segment : (p : LineSegment) (L : Seen) → Test (LaterSegment P p L)
   later_segment p L =
@@ -188,7 +212,7 @@ module _ (t₀ : View connections) (P : Pair) where
       (both (is_true (has_answer p.from L))
       (both (equal (ack p.flags) 1) (both (equal (syn p.flags) 0) (equal (rst p.flags) 0)))))
       (both
-      (both (at_most (highest ack_of (received_by p.from L)) p.start) (at_most (end_of p) (highest edge_of (received_by p.from L))))
+      (both (at_most (highest ack_of (received_by p.from L)) p.start) (at_most (end_of p) (highest (edge_of P) (received_by p.from L))))
       (both (at_most (P.start (other_end p.from) + 1) p.acked)
       (both (at_most p.acked (highest end_of (received_by p.from L))) (at_most (highest ack_of (sent_by p.from L)) p.acked)))))
 
@@ -282,7 +306,7 @@ module _ (t₀ : View connections) (P : Pair) where
 
   abbrev fair_call : (l : Label) (q : ViewCall) (L : Seen) → Test (FairCall M t₀ P l q L)
   fair_call (opening k p) q L = opens k p q L
-  fair_call (arrival k p) q L = comes_with overtaking_allowance k p q L
+  fair_call (arrival k p) q L = comes_with (overtaking_allowance P p.from) k p q L
   fair_call other q L = no_arrival q L
 
   abbrev is_label : (l : Label) (k : ℕ) (p : LineSegment) → Test (IsArrivalOf l k p)
@@ -319,7 +343,7 @@ module _ (t₀ : View connections) (P : Pair) where
       })
       (both (is_true (told M t₀ L).opening_seen)
       (both (brings k p q L)
-      (both (both (in_order_or_overtaken overtaking_allowance k p L)
+      (both (both (in_order_or_overtaken (overtaking_allowance P p.from) k p L)
       (every_arrived (λ j g. g.from ≡ p.from → k < j → (syn p.flags ≡ 0) × (rst p.flags ≡ 0))
       (λ j g. if_equal g.from p.from (if_below k j (both (equal (syn p.flags) 0) (equal (rst p.flags) 0)))) L))
       (both (is_live q L) (if_equal (rst p.flags) 1 (is_true (passes M (told M t₀ L) q)))))))

@@ -6,12 +6,13 @@ use mathlib.Core.Bool.{Bool, true, false, ◌&&◌}
 use mathlib.Core.List.{List, [], ◌∷◌}
 use native.Mathlib.Omega.{arith}
 use borrow.Author.Tests.{eq-eqb, eqb-true, eqb-false}
-use Rattle.choice.specs.Choice.{◌=ᵇ◌}
+use Rattle.choice.specs.Choice.{when◌then◌else◌, ◌=ᵇ◌}
 use Rattle.choice.proofs.Choice.{when-both}
 use Rattle.choice.proofs.Tests.{true-&&, &&-true, true-or-false, false-true}
 use Rattle.address.specs.declared.Flow.{Flow}
 use Rattle.segment.specs.Flags.{rst, is_reset, SYN}
 use Rattle.segment.specs.declared.Segment.{Segment}
+use Rattle.connection.specs.Scaling.{kept_shift, offer_bit}
 use Rattle.connection.specs.Stages.{life_of}
 use Rattle.connection.specs.Decision.{verdict_on, verdict_number, passed, opened}
 use Rattle.connection.specs.declared.Connection.{Connection}
@@ -23,7 +24,7 @@ use Rattle.rows.specs.declared.Found.{Found}
 use Rattle.rows.specs.declared.Found.TheVariants.{At, Nothing}
 use Rattle.rows.proofs.Rows.{sender_known, on_segment-by-search, on_entry-by-verdict, unmatched-answer, answer-by-verdict, found-live}
 use Rattle.history.specs.Numbers.{on_ring}
-use Rattle.history.specs.History.{LineSegment, numbers_of, fins_of, stage_of, placed, judge, Holds, Placeable}
+use Rattle.history.specs.History.{LineSegment, numbers_of, fins_of, stage_of, offer_in, placed, judge, Holds, Placeable}
 use Rattle.history.proofs.Pass.{reset-freed}
 use Rattle.history.proofs.Demand2.{Reached, unanswered, answered, judged, pass-holds, reset-frees, holds-first, reached-first}
 use Rattle.history.proofs.Places.{from-stage-2, by-all-places}
@@ -39,7 +40,7 @@ never (answered a turned) = absurd (omega (arith, turned 0 (omega arith)))
 
 -- a history that was reached is not empty, and what the table has for it holds it
 reached-holds : (h : History) → Reached h.segments → Holds (connection_of h) h.segments
-reached-holds h r = record { stage = refl; fins = refl; ends = go h.segments r }
+reached-holds h r = record { stage = refl; fins = refl; ends = go h.segments r; shifts = refl; offers = refl }
   where
     go : (l : List LineSegment) → Reached l → records_of l ≡ on_ring (numbers_of 0 l) ∷ on_ring (numbers_of 1 l) ∷ []
     go [] none = never none
@@ -62,7 +63,15 @@ stands_by k c h side deadline holds reached =
     record {
       is = λ i. record {
         key = k;
-        connection = record { stage = holds.stage i; side = side i; fins = holds.fins i; deadline = deadline i; ends = ends i };
+        connection = record {
+          stage = holds.stage i;
+          side = side i;
+          fins = holds.fins i;
+          deadline = deadline i;
+          ends = ends i;
+          shifts = holds.shifts i;
+          offers = holds.offers i;
+        };
       };
       reached = λ _. reached;
     }
@@ -78,7 +87,7 @@ made-stands now side k g placeable opening =
     stands_by k _ _ refl (ap (λ (s : ℕ). now + life_of s) holds.stage) holds (reached-first side g now placeable a-syn)
 
 free-stands : Stands (free_entry connections) (free_entry histories)
-unfolding stage_of fins_of
+unfolding stage_of fins_of offer_in kept_shift offer_bit when◌then◌else◌
 free-stands = record { is = refl; reached = λ Live-now. absurd (omega arith) }
 
 -- a pass on a live entry

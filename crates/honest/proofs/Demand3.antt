@@ -9,7 +9,7 @@ use borrow.Author.Tests.{eq-eqb, eqb-true, eqb-false, lt-ltb, ltb-true}
 use Rattle.choice.specs.Choice.{when◌then◌else◌, ◌<ᵇ◌, ◌=ᵇ◌}
 use Rattle.choice.proofs.Choice.{when-true, when-false, when-either, when-cases, when-=-not}
 use Rattle.choice.proofs.Tests.{false-true, true-or-false, lt-or-ge, true-&&, &&-true}
-use Rattle.segment.specs.Flags.{rst, is_reset, SYN}
+use Rattle.segment.specs.Flags.{syn, rst, is_reset, SYN}
 use Rattle.connection.specs.Stages.{life_of}
 use Rattle.connection.specs.Decision.{verdict_on, passed, opened, reset}
 use Rattle.connection.specs.declared.Connection.{Connection}
@@ -20,16 +20,17 @@ use Rattle.rows.specs.Connections.{connections}
 use Rattle.rows.specs.declared.Found.TheVariants.{At, Nothing}
 use Rattle.rows.proofs.Rows.{on_segment-by-search, on_entry-by-verdict}
 use Rattle.history.specs.Numbers.{Numbers}
-use Rattle.history.specs.History.{LineSegment, on_wire, stage_of, Holds, Formed}
+use Rattle.history.specs.History.{LineSegment, offer_in, window_under, window_after, on_wire, stage_of, Holds, Formed}
 use Rattle.connection.proofs.Stages.{life_of-outside}
-use Rattle.history.proofs.Pass.{reset-freed, reset-answered, reset-holds, opened-unanswered, opened-holds, opener-begins}
+use Rattle.history.proofs.Scaling.{syn-unscaled}
+use Rattle.history.proofs.Pass.{reset-freed, reset-answered, reset-holds, opened-unanswered, opened-holds, opener-begins, openers-first}
 use Rattle.honest.specs.Sound.{SoundView}
 use Rattle.honest.specs.Machine.{Reading, refused, asks, apart, Machine, clock_in, asks_here, brings_reset, KeepsTo}
 use Rattle.honest.specs.Rules.{Label, opening, arrival, other, Event, send, call, delivery, Pair, side_of, key_of, Sent, Arrived, received_by, highest_ack_at_sending, Honest, overtaking_allowance}
 use Rattle.honest.specs.Honest.{Told, passes, next_clock, after_segment, passed_on_ours, some_reset, after_elsewhere, after_call, told, said, Live, WasPassed, bringing, Opening, Arrival, FairCall, Legal, NeverBlocked, Demand3}
 use Rattle.honest.proofs.Lists.{In, NoReset}
 use Rattle.honest.proofs.Sends.{SentWith, sent-with, sending, First, Later, Fact, Protocol, answered-in, protocol-sent, protocol-delivered, protocol-called, protocol-passed, protocol-reset, rises-more}
-use Rattle.honest.proofs.Arrival.{Heard, quiet, both, passing, Renewed, reset-renewed, passed-renewed, opened-renewed}
+use Rattle.honest.proofs.Arrival.{Heard, quiet, both, still-agreed, passing, Renewed, reset-renewed, passed-renewed, opened-renewed}
 use Rattle.honest.proofs.Table.{OurEntry, OthersExpired, ours, AskOf, arrival-found, opening-made, pass-elsewhere, pass-on-ours, reset-on-ours, found-place, pass-clock}
 
 -- a stage with a life is not that of a free entry
@@ -266,17 +267,18 @@ module _ (M : Machine) (Sound : M.State → Type 0) (keeps : KeepsTo M Sound) (s
 
       -- the opening
       pub opening-kept :
-          a.segment ≡ on_wire p → AskOf P 0 a → p.from ≡ 0 → p.flags ≡ SYN → Formed p → p.start ≡ P.start 0 → t.history ≡ [] →
+          a.segment ≡ on_wire p → AskOf P 0 a → p.from ≡ 0 → p.flags ≡ SYN → Formed p → p.start ≡ P.start 0 → p.offer ≡ P.offer 0 →
+          t.history ≡ [] →
           rows.search connections v (used a) a.side a.key ≡ Nothing →
           Table-kept (after_segment M t q (M.run t.state q).place p)
-      opening-kept brings asked-0 opener a-syn formed begins none unfound =
+      opening-kept brings asked-0 opener a-syn formed begins offers none unfound =
           let made = opening-made P known v sound-before a asked-0 unfound answer_0 in
           let c : Connection = opened P.side a.segment (used a) in
           let renewed = opened-renewed P.side a.segment (used a) in
           let holds : Holds (opened P.side a.segment (used a)) (p ∷ t.history) =
           rw (brings, none) (opened-holds p opener a-syn formed P.side (used a)) in
           let end = ap (λ (n : Numbers). n.end) (opener-begins p opener a-syn formed) in
-          let heard : Heard P (p ∷ t.history) = rw none (quiet (opened-unanswered p opener a-syn formed) (omega (arith, end, begins))) in
+          let heard : Heard P (p ∷ t.history) = rw none (quiet (opened-unanswered p opener a-syn formed) (omega (arith, end, begins)) (openers-first p opener a-syn formed ∙ offers)) in
           let place = keeps.place_by_rows t.state q a kept.sound read ∙ ap (place_by M.number) made.is in
           let table = keeps.view_by_rows t.state q a kept.sound read ∙ ap (after connections v) made.is in
           segment-kept (M.run t.state q).place made.place c (sym place) (rw table made.ours) (rw table made.others)
@@ -292,7 +294,7 @@ module _ (M : Machine) (Sound : M.State → Type 0) (keeps : KeepsTo M Sound) (s
       reset-kept c al is_reset on-top at-ours opened-t = go al.heard
         where
           go : Heard P t.history → Table-kept (after_segment M t q t.place p)
-          go (quiet u begun) =
+          go (quiet u begun agreed) =
               let gone : life_of (stage_of (p ∷ t.history)) ≡ 0 = ap life_of (reset-freed t.history p on-top u.stage) ∙ life_of-outside 0 (λ some. omega arith) in
               let told-then : (after_segment M t q t.place p).until ≡ next_clock M t q + life_of (stage_of (p ∷ t.history)) = when-true _ _ _ e in
               record {
@@ -300,7 +302,7 @@ module _ (M : Machine) (Sound : M.State → Type 0) (keeps : KeepsTo M Sound) (s
                 clock = clock-after (asked a read e) e;
                 phase = dead refl (omega (arith, told-then, gone));
               }
-          go (both a2 begun) =
+          go (both a2 begun agreed) =
               let now : ℕ = used a in
               let later : 2 ≤ c.stage = omega (arith, al.holds.stage, a2.stage) in
               let left = reset-on-ours P known v sound-before al.place c a al.ours answer_0 at-ours is_reset later in
@@ -309,7 +311,8 @@ module _ (M : Machine) (Sound : M.State → Type 0) (keeps : KeepsTo M Sound) (s
               let r = pass-on-ours P known v sound-before al.place c (reset c now) now al.ours al.others (omega arith) (renewed.side ∙ al.ours.our-side) in
               segment-kept t.place al.place (reset c now) al.numbered (rw table r.0) (rw table r.1)
               (reset-holds t.history p on-top a2 c al.holds now)
-              (both (reset-answered t.history p on-top a2) (λ i i-known. omega (arith, begun i i-known, (rises-more p t.history).end i)))
+              (both (reset-answered t.history p on-top a2) (λ i i-known. omega (arith, begun i i-known, (rises-more p t.history).end i))
+              (still-agreed P t.history p a2 agreed))
               renewed.deadline
 
     -- A reset that is no arrival
@@ -412,6 +415,7 @@ module _ (M : Machine) (Sound : M.State → Type 0) (keeps : KeepsTo M Sound) (s
       received = λ i p none. absurd none;
       arrived = λ k p none. absurd none;
       passed = λ p none. absurd none;
+      counted = tt;
     };
   }
 
@@ -440,6 +444,7 @@ module _ (M : Machine) (Sound : M.State → Type 0) (keeps : KeepsTo M Sound) (s
     received = pr.received;
     arrived = λ k p a. ⊎_elim (λ never. absurd never) (λ old. pr.arrived k p old) a;
     passed = λ p there none. let r = pr.passed p there none in (r.0, inr r.1);
+    counted = pr.counted;
   }
 
   after-other : (q : M.Call) (L : List (Event M.Call)) → Inv L → FairCall M s₀ P other q L → Inv (call q other ∷ L)
@@ -459,12 +464,12 @@ module _ (M : Machine) (Sound : M.State → Type 0) (keeps : KeepsTo M Sound) (s
   -- a segment of the pair's, passed
   protocol-after :
       (q : M.Call) (l : Label) (k : ℕ) (p : LineSegment) (L : List (Event M.Call)) → Inv L → Sent k p L →
-      passes M (told M s₀ L) q ≡ true → (place : ℕ) →
+      passes M (told M s₀ L) q ≡ true → (NoReset p → window_after (told M s₀ L).history p ≡ window_under P.offer p) → (place : ℕ) →
       Protocol P (after_segment M (told M s₀ L) q place p).history (λ j g. ((j ≡ k) × (g ≡ p)) ⊎ Arrived j g L) (call q l ∷ L)
-  protocol-after q l k p L inv sent e place =
+  protocol-after q l k p L inv sent e counts place =
       let with-s = sent-with k p L sent in
       rw (when-true (passes M (told M s₀ L) q) (p ∷ (told M s₀ L).history) (told M s₀ L).history e)
-      (protocol-passed P (told M s₀ L).history (λ j g. Arrived j g L) L inv.protocol q l k p with-s.0 with-s.1)
+      (protocol-passed P (told M s₀ L).history (λ j g. Arrived j g L) L inv.protocol q l k p with-s.0 with-s.1 counts)
 
   after_opening :
       (q : M.Call) (k : ℕ) (p : LineSegment) (L : List (Event M.Call)) → Inv L → Opening M s₀ P k p q L →
@@ -472,7 +477,8 @@ module _ (M : Machine) (Sound : M.State → Type 0) (keeps : KeepsTo M Sound) (s
   unfolding told after_call
   after_opening q k p L inv o = record {
     table = by-phase inv.table.phase;
-    protocol = protocol-after q (opening k p) k p L inv o.arrives.sent o.answered_0 (M.run (told M s₀ L).state q).place;
+    protocol = protocol-after q (opening k p) k p L inv o.arrives.sent o.answered_0
+        (λ _. let a-syn = ap syn o.is_syn in syn-unscaled (offer_in (told M s₀ L).history) p a-syn ∙ sym (syn-unscaled P.offer p a-syn)) (M.run (told M s₀ L).state q).place;
   }
     where
       w : (s : ℕ) × SentWith k p s L
@@ -497,13 +503,14 @@ module _ (M : Machine) (Sound : M.State → Type 0) (keeps : KeepsTo M Sound) (s
           let x = is-first none in
           opening-kept (told M s₀ L) inv.table q p _ o.arrives.brings o.answered_0 refl
           record { end = omega arith; side = ap (side_of P) o.by_opener; key = ap (key_of P) o.by_opener }
-          o.by_opener o.is_syn f.formed (x.rule.start ∙ ap P.start o.by_opener) none o.finds_none
+          o.by_opener o.is_syn f.formed (x.rule.start ∙ ap P.start o.by_opener)
+          (x.rule.offer ∙ ap P.offer o.by_opener) none o.finds_none
 
   abbrev Good : (q : M.Call) (k : ℕ) (p : LineSegment) (L : List (Event M.Call)) → Type 0
   Good q k p L = ((said M s₀ L q).answer ≡ 0) × ((said M s₀ L q).place ≡ (told M s₀ L).place) × Inv (call q (arrival k p) ∷ L)
 
   module _
-      (q : M.Call) (k : ℕ) (p : LineSegment) (L : List (Event M.Call)) (inv : Inv L) (r : Arrival M s₀ P overtaking_allowance k p q L)
+      (q : M.Call) (k : ℕ) (p : LineSegment) (L : List (Event M.Call)) (inv : Inv L) (r : Arrival M s₀ P (overtaking_allowance P p.from) k p q L)
       (c : Connection) (al : Alive (told M s₀ L) c) where
     abbrev a : Ask
     a = bringing P p r.arrives.clock
@@ -530,7 +537,7 @@ module _ (M : Machine) (Sound : M.State → Type 0) (keeps : KeepsTo M Sound) (s
           record {
             table = reset-kept (told M s₀ L) inv.table q p a r.arrives.brings passed c al is_reset is_reset
                 (λ at found-there now entry left_there. let same : At at ≡ At al.place = sym found-there ∙ found in cc) r.after_opening;
-            protocol = protocol-after q (arrival k p) k p L inv r.arrives.sent passed (told M s₀ L).place;
+            protocol = protocol-after q (arrival k p) k p L inv r.arrives.sent passed (λ none. absurd (none is_reset)) (told M s₀ L).place;
           },
         )
 
@@ -552,11 +559,11 @@ module _ (M : Machine) (Sound : M.State → Type 0) (keeps : KeepsTo M Sound) (s
                 x.holds_after x.heard-after;
             protocol = protocol-after q (arrival k p) k p L inv r.arrives.sent
                 (arrival-passes (told M s₀ L) inv.table q p a r.arrives.brings refl asked-p no_reset c al r.live x.verdict)
-                (told M s₀ L).place;
+                (λ _. x.counts) (told M s₀ L).place;
           },
         )
 
-  after-arrival : (q : M.Call) (k : ℕ) (p : LineSegment) (L : List (Event M.Call)) → Inv L → Arrival M s₀ P overtaking_allowance k p q L → Good q k p L
+  after-arrival : (q : M.Call) (k : ℕ) (p : LineSegment) (L : List (Event M.Call)) → Inv L → Arrival M s₀ P (overtaking_allowance P p.from) k p q L → Good q k p L
   after-arrival q k p L inv r = by-phase inv.table.phase
     where
       by-phase : Phase (told M s₀ L) → Good q k p L

@@ -15,3 +15,4 @@ pub mod Marked
 pub mod Check
 pub mod Witness
 pub mod Needed
+pub mod Scaled

@@ -11,8 +11,9 @@ use Rattle.choice.specs.Choice.{◌=ᵇ◌, ◌≠ᵇ◌}
 use Rattle.choice.proofs.Choice.{when-true, when-false, when-cases, when-=-not}
 use Rattle.choice.proofs.Tests.{&&-true, ||-true, false-true}
 use Rattle.segment.specs.Flags.{rst, is_reset, ack}
-use Rattle.history.specs.History.{LineSegment, numbers_of, end_by, edge_by, window_by}
-use Rattle.honest.specs.Rules.{highest, some, edge_of, end_of}
+use Rattle.segment.specs.declared.Offer.{Offer}
+use Rattle.history.specs.History.{LineSegment, window_under, window_after, numbers_of, end_by, edge_by, window_by}
+use Rattle.honest.specs.Rules.{Pair, highest, some, edge_of, end_of}
 
 -- p is one of the segments of l
 abbrev pub In : LineSegment → List LineSegment → Type 0
@@ -72,37 +73,47 @@ in_some test (g ∷ l) p here none e =
 
 -- The six numbers
 
+-- each segment counted, when it passed, as these offers have it
+abbrev pub CountedBy : (ℕ → Offer) → List LineSegment → Type 0
+CountedBy offer [] = Unit {0}
+CountedBy offer (p ∷ h) = (NoReset p → window_after h p ≡ window_under offer p) × CountedBy offer h
+
 module _ (i : ℕ) (p : LineSegment) (no_reset : NoReset p) where
   pub end_by-mine : p.from ≡ i → end_by i p ≡ end_of p
   end_by-mine mine = when-true _ _ _ (rw (eq-eqb p.from i mine, ne_eqb (rst p.flags) 1 no_reset))
 
-  pub window_by-mine : p.from ≡ i → window_by i p ≡ p.window
-  window_by-mine mine = when-true _ _ _ (rw (eq-eqb p.from i mine, ne_eqb (rst p.flags) 1 no_reset))
+  pub window_by-mine : (w : ℕ) → p.from ≡ i → window_by i w p ≡ w
+  window_by-mine w mine = when-true _ _ _ (rw (eq-eqb p.from i mine, ne_eqb (rst p.flags) 1 no_reset))
 
   -- a right edge that is received is one that has passed
-  pub edge_of≤edge_by : (p.from ≡ i → ⊥) → edge_of p ≤ edge_by i p
-  edge_of≤edge_by theirs = by (eqb (ack p.flags) 1) refl
+  pub edge_of≤edge_by : (P : Pair) → (p.from ≡ i → ⊥) → edge_of P p ≤ edge_by i (window_under P.offer p) p
+  edge_of≤edge_by P theirs = by (eqb (ack p.flags) 1) refl
     where
-      by : (t : Bool) → eqb (ack p.flags) 1 ≡ t → edge_of p ≤ edge_by i p
+      by : (t : Bool) → eqb (ack p.flags) 1 ≡ t → edge_of P p ≤ edge_by i (window_under P.offer p) p
       by true e =
-          let received : edge_of p ≡ _ = when-true _ _ _ e in
-          let passed : edge_by i p ≡ _ = when-=-not _ _ no_reset ∙ when-=-not _ _ theirs ∙ when-true _ _ _ e in
+          let received : edge_of P p ≡ _ = when-true _ _ _ e in
+          let passed : edge_by i (window_under P.offer p) p ≡ _ = when-=-not _ _ no_reset ∙ when-=-not _ _ theirs ∙ when-true _ _ _ e in
           omega (arith, received, passed)
-      by false e = let received : edge_of p ≡ _ = when-false _ _ _ e in omega (arith, received)
+      by false e = let received : edge_of P p ≡ _ = when-false _ _ _ e in omega (arith, received)
 
 pub end_by-theirs : (i : ℕ) (p : LineSegment) → (p.from ≡ i → ⊥) → end_by i p ≡ 0
 end_by-theirs i p theirs = when-false _ _ _ (rw (ne_eqb p.from i theirs))
 
-module _ (i : ℕ) (p : LineSegment) where
+module _ (offer : ℕ → Offer) (i : ℕ) (p : LineSegment) (no_reset : NoReset p) where
+  abbrev w : ℕ
+  w = window_under offer p
+
   pub numbers_up :
-      (h : List LineSegment) → In p h →
-      (end_by i p ≤ (numbers_of i h).end) × (edge_by i p ≤ (numbers_of i h).edge) × (window_by i p ≤ (numbers_of i h).win)
+      (h : List LineSegment) → CountedBy offer h → In p h →
+      (end_by i p ≤ (numbers_of i h).end) × (edge_by i w p ≤ (numbers_of i h).edge) × (window_by i w p ≤ (numbers_of i h).win)
   unfolding numbers_of
-  numbers_up [] here = absurd here
-  numbers_up (g ∷ h) here =
+  numbers_up [] counted here = absurd here
+  numbers_up (g ∷ h) counted here =
       ⊎_elim
-      (λ (e : p ≡ g). rw e (omega arith, omega arith, omega arith))
-      (λ (there : In p h). let k = numbers_up h there in (omega (arith, k.0), omega (arith, k.1), omega (arith, k.2)))
+      (λ (e : p ≡ g).
+      let counts : window_after h g ≡ window_under offer g = counted.0 (λ is. no_reset (ap (λ (f : LineSegment). rst f.flags) e ∙ is)) in
+      rw (e, ← counts) (omega arith, omega arith, omega arith))
+      (λ (there : In p h). let k = numbers_up h counted.1 there in (omega (arith, k.0), omega (arith, k.1), omega (arith, k.2)))
       here
 
 end_by≤ : (i b : ℕ) (p : LineSegment) → (p.from ≡ i → NoReset p → end_of p ≤ b) → end_by i p ≤ b
@@ -121,6 +132,24 @@ end-lub i b [] all = omega arith
 end-lub i b (g ∷ h) all =
     let rest : (numbers_of i h).end ≤ b = end-lub i b h (λ p there. all p (inr there)) in
     omega (arith, end_by≤ i b g (all g (inl refl)))
+
+-- no window that has passed is larger than each is by its offers
+pub win-lub :
+    (offer : ℕ → Offer) (i b : ℕ) → 1 ≤ b → (h : List LineSegment) → CountedBy offer h →
+    ((p : LineSegment) → In p h → p.from ≡ i → NoReset p → window_under offer p ≤ b) →
+    (numbers_of i h).win ≤ b
+unfolding numbers_of
+win-lub offer i b some [] counted all = omega arith
+win-lub offer i b some (g ∷ h) counted all =
+    let rest : (numbers_of i h).win ≤ b = win-lub offer i b some h counted.1 (λ p there. all p (inr there)) in
+    let this : window_by i (window_after h g) g ≤ b =
+    when-cases (λ n. n ≤ b) ((g.from =ᵇ i) && (rst g.flags ≠ᵇ 1)) (window_after h g) 0
+    (λ mine.
+    let c = &&-true (g.from =ᵇ i) (rst g.flags ≠ᵇ 1) mine in
+    let none = eqb-false _ _ (not-true _ c.1) in
+    rw (counted.0 none) (all g (inl refl) (eqb-true g.from i c.0) none))
+    (λ _. omega arith) in
+    omega arith
 
 pub win-some : (i : ℕ) (h : List LineSegment) → 1 ≤ (numbers_of i h).win
 unfolding numbers_of

@@ -12,9 +12,9 @@ use Rattle.choice.specs.Choice.{when◌then◌else◌, ◌=ᵇ◌}
 use Rattle.choice.proofs.Choice.{when-true, when-false, when-either, when-=, when-=-not}
 use Rattle.choice.proofs.Tests.{false-true}
 use Rattle.segment.specs.Flags.{syn, rst, ack, SYN, SYN+ACK}
-use Rattle.history.specs.History.{LineSegment, numbers_of, Formed}
+use Rattle.history.specs.History.{LineSegment, window_under, window_after, numbers_of, Formed}
 use Rattle.honest.specs.Rules.{Label, Event, send, call, delivery, Pair, sent_by, Sent, received_by, highest, some, ack_of, edge_of, end_of, highest_ack_at_sending, has_answer, LaterSegment, Allowed, openers_syn, answerers_syn_ack, later, any_reset, MayOvertake}
-use Rattle.honest.proofs.Lists.{In, NoReset, highest-up, highest-lub, some_in, in_some, end_by-mine, window_by-mine, edge_of≤edge_by, numbers_up, win-some}
+use Rattle.honest.proofs.Lists.{In, NoReset, CountedBy, highest-up, highest-lub, some_in, in_some, end_by-mine, window_by-mine, edge_of≤edge_by, numbers_up, win-some}
 
 -- Sendings with their snapshots
 
@@ -93,6 +93,7 @@ pub record FirstSegment (P : Pair) (p : LineSegment) : Type 0 where
   pub flags : p.flags ≡ (when p.from =ᵇ 0 then SYN else SYN+ACK)
   pub start : p.start ≡ P.start p.from
   pub acks : p.from ≡ 1 → p.acked ≡ P.start 0 + 1
+  pub offer : p.offer ≡ P.offer p.from
 
 module _ {Call : Type 0} (P : Pair) (p : LineSegment) (L : List (Event Call)) where
   -- what an end sends, by whether it has an answer
@@ -109,6 +110,7 @@ module _ {Call : Type 0} (P : Pair) (p : LineSegment) (L : List (Event Call)) wh
         flags = r.flags ∙ sym (when-= {a = p.from} {b = 0} SYN SYN+ACK end);
         start = r.start ∙ ap P.start (sym end);
         acks = λ answerer. absurd (omega arith);
+        offer = r.offer ∙ ap P.offer (sym end);
       }
       (subst (λ (i : ℕ). has_answer i L ≡ false) (sym end) r.until_syn_ack)
   sending (answerers_syn_ack r) =
@@ -118,6 +120,7 @@ module _ {Call : Type 0} (P : Pair) (p : LineSegment) (L : List (Event Call)) wh
         flags = r.flags ∙ sym (when-=-not {a = p.from} {b = 0} SYN SYN+ACK (λ (e : p.from ≡ 0). omega arith));
         start = r.start ∙ ap P.start (sym end);
         acks = λ answerer. r.acks_syn;
+        offer = r.offer ∙ ap P.offer (sym end);
       }
       (subst (λ (i : ℕ). has_answer i L ≡ false) (sym end) r.until_ack)
   sending (later r) = after r
@@ -287,6 +290,8 @@ module _ {Call : Type 0} (P : Pair) where
     pub arrived : (k : ℕ) (p : LineSegment) → Arrived k p → (s : ℕ) × SentWith k p s L
     -- a reset may be anybody's
     pub passed : (p : LineSegment) → In p h → NoReset p → (k : ℕ) × Arrived k p
+    -- each window counted, when it passed, as both ends reckon
+    pub counted : CountedBy P.offer h
 
   -- a segment that has passed was sent
   pub passed-sent :
@@ -336,11 +341,11 @@ module _ {Call : Type 0} (P : Pair) where
 
     pub heard-ends : highest end_of (received_by i L) ≤ (numbers_of (1 - i) h).end
     heard-ends = highest-lub end_of _ (received_by i L) (λ g there none.
-        rw (end_by-mine (1 - i) g none (theirs g there none)) at (numbers_up (1 - i) g h (inv.received i g there).0).0)
+        rw (end_by-mine (1 - i) g none (theirs g there none)) at (numbers_up P.offer (1 - i) g none h inv.counted (inv.received i g there).0).0)
 
-    pub heard-edges : highest edge_of (received_by i L) ≤ (numbers_of i h).edge
-    heard-edges = highest-lub edge_of _ (received_by i L) (λ g there none.
-        omega (arith, edge_of≤edge_by i g none (inv.received i g there).1, (numbers_up i g h (inv.received i g there).0).1))
+    pub heard-edges : highest (edge_of P) (received_by i L) ≤ (numbers_of i h).edge
+    heard-edges = highest-lub (edge_of P) _ (received_by i L) (λ g there none.
+        omega (arith, edge_of≤edge_by i g none P (inv.received i g there).1, (numbers_up P.offer i g none h inv.counted (inv.received i g there).0).1))
 
     pub heard-acks : highest ack_of (received_by i L) ≤ highest (ack_from (1 - i)) h
     heard-acks = highest-lub ack_of _ (received_by i L) (λ g there none.
@@ -348,21 +353,21 @@ module _ {Call : Type 0} (P : Pair) where
         rw mine at (highest-up (ack_from (1 - i)) g h (inv.received i g there).0 none))
 
     -- a right edge received is no further than the acknowledgement received and the largest window passed
-    pub heard-windows : highest edge_of (received_by i L) ≤ highest ack_of (received_by i L) + (numbers_of (1 - i) h).win
-    heard-windows = highest-lub edge_of _ (received_by i L) (λ g there none.
-        let window : g.window ≤ (numbers_of (1 - i) h).win =
-        rw (window_by-mine (1 - i) g none (theirs g there none)) at (numbers_up (1 - i) g h (inv.received i g there).0).2 in
+    pub heard-windows : highest (edge_of P) (received_by i L) ≤ highest ack_of (received_by i L) + (numbers_of (1 - i) h).win
+    heard-windows = highest-lub (edge_of P) _ (received_by i L) (λ g there none.
+        let window : window_under P.offer g ≤ (numbers_of (1 - i) h).win =
+        rw (window_by-mine (1 - i) g none (window_under P.offer g) (theirs g there none)) at (numbers_up P.offer (1 - i) g none h inv.counted (inv.received i g there).0).2 in
         granted g (highest ack_of (received_by i L)) (numbers_of (1 - i) h).win window (win-some (1 - i) h) (highest-up ack_of g (received_by i L) there none))
       where
-        granted : (g : LineSegment) (top win : ℕ) → g.window ≤ win → 1 ≤ win → ack_of g ≤ top → edge_of g ≤ top + win
+        granted : (g : LineSegment) (top win : ℕ) → window_under P.offer g ≤ win → 1 ≤ win → ack_of g ≤ top → edge_of P g ≤ top + win
         granted g top win small some below = by (eqb (ack g.flags) 1) refl
           where
-            by : (t : Bool) → eqb (ack g.flags) 1 ≡ t → edge_of g ≤ top + win
+            by : (t : Bool) → eqb (ack g.flags) 1 ≡ t → edge_of P g ≤ top + win
             by true e =
                 let a : ack_of g ≡ g.acked = when-true _ _ _ e in
-                let edge : edge_of g ≡ _ = when-true _ _ _ e in
+                let edge : edge_of P g ≡ _ = when-true _ _ _ e in
                 omega (arith, a, edge)
-            by false e = let edge : edge_of g ≡ _ = when-false _ _ _ e in omega (arith, edge)
+            by false e = let edge : edge_of P g ≡ _ = when-false _ _ _ e in omega (arith, edge)
 
     -- an end that is answered has received an acknowledgement of its SYN
     pub answered-heard : has_answer i L ≡ true → P.start i + 1 ≤ highest ack_of (received_by i L)
@@ -516,6 +521,7 @@ module _ {Call : Type 0} (P : Pair) where
       received = inv.received;
       arrived = λ k g a. let r = inv.arrived k g a in (r.0, inr r.1);
       passed = inv.passed;
+      counted = inv.counted;
     }
 
   -- A delivery of what has passed
@@ -532,6 +538,7 @@ module _ {Call : Type 0} (P : Pair) where
     received = λ i g got. delivered i g (eqb p.from i) refl got;
     arrived = inv.arrived;
     passed = inv.passed;
+    counted = inv.counted;
   }
     where
       delivered :
@@ -562,15 +569,17 @@ module _ {Call : Type 0} (P : Pair) where
       received = inv.received;
       arrived = inv.arrived;
       passed = inv.passed;
+      counted = inv.counted;
     }
 
     -- with p on the history, and perhaps more that has arrived
     protocol-grown :
         (p : LineSegment) (Arrived' : ℕ → LineSegment → Type 0) → ((k : ℕ) (g : LineSegment) → Arrived' k g → (s : ℕ) × SentWith k g s L) →
         ((k : ℕ) (g : LineSegment) → Arrived k g → Arrived' k g) → (NoReset p → (k : ℕ) × Arrived' k p) →
+        (NoReset p → window_after h p ≡ window_under P.offer p) →
         Protocol (p ∷ h) Arrived' (call q l ∷ L)
     unfolding received_by
-    protocol-grown p Arrived' arrived more this = record {
+    protocol-grown p Arrived' arrived more this counts = record {
       senders-known = inv.senders-known;
       facts = λ j g r was none. fact-kept h (p ∷ h) g r L (call q l ∷ L) (rises-more p h) grows-call (inv.facts j g r was none);
       order = inv.order;
@@ -581,20 +590,21 @@ module _ {Call : Type 0} (P : Pair) where
           let r = this (λ is. none (ap (λ (f : LineSegment). rst f.flags) same ∙ is)) in (r.0, subst (Arrived' r.0) (sym same) r.1))
           (λ (before : In g h). let r = inv.passed g before none in (r.0, more r.0 g r.1))
           there;
+      counted = (counts, inv.counted);
     }
 
     pub protocol-passed :
-        (k : ℕ) (p : LineSegment) (s : ℕ) → SentWith k p s L →
+        (k : ℕ) (p : LineSegment) (s : ℕ) → SentWith k p s L → (NoReset p → window_after h p ≡ window_under P.offer p) →
         Protocol (p ∷ h) (λ j g. ((j ≡ k) × (g ≡ p)) ⊎ Arrived j g) (call q l ∷ L)
-    protocol-passed k p s sent =
+    protocol-passed k p s sent counts =
         protocol-grown p (λ j g. ((j ≡ k) × (g ≡ p)) ⊎ Arrived j g)
         (λ j g a. ⊎_elim
         (λ (now : (j ≡ k) × (g ≡ p)).
         (s, subst (λ (i : ℕ). SentWith i g s L) (sym now.0) (subst (λ (f : LineSegment). SentWith k f s L) (sym now.1) sent)))
         (λ (before : Arrived j g). inv.arrived j g before)
         a)
-        (λ j g a. inr a) (λ _. (k, inl (refl, refl)))
+        (λ j g a. inr a) (λ _. (k, inl (refl, refl))) counts
 
     -- a reset that is no arrival
     pub protocol-reset : (p : LineSegment) → rst p.flags ≡ 1 → Protocol (p ∷ h) Arrived (call q l ∷ L)
-    protocol-reset p is = protocol-grown p Arrived inv.arrived (λ j g a. a) (λ none. absurd (none is))
+    protocol-reset p is = protocol-grown p Arrived inv.arrived (λ j g a. a) (λ none. absurd (none is)) (λ none. absurd (none is))

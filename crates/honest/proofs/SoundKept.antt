@@ -1,9 +1,10 @@
 -- A call leaves a sound table sound, whatever the traffic.
 use Prim.Native.Nat.{ℕ, zero, suc, ◌^◌, ◌<◌, ◌≤◌}
-use mathlib.Core.Path.{◌≡◌, refl, ap}
+use mathlib.Core.Path.{◌≡◌, refl, sym, ap, subst}
 use mathlib.Core.Logic.{◌⊎◌, inl, inr, ⊎_elim}
 use mathlib.Core.Bool.{true, false}
 use mathlib.Core.List.{List, [], ◌∷◌}
+use lib.ListN.{length}
 use native.Mathlib.Omega.{arith}
 use borrow.Author.Tests.{eqb-false}
 use Rattle.choice.specs.Choice.{◌=ᵇ◌}
@@ -12,12 +13,14 @@ use Rattle.choice.proofs.Tests.{lt-or-ge}
 use Rattle.serial.specs.Ring.{ring_plus}
 use Rattle.serial.specs.Serial.{further}
 use Rattle.serial.specs.declared.SeqNum.{SeqNum}
+use Rattle.serial.specs.declared.OctetCount.{OctetCount}
 use Rattle.serial.proofs.Ring.{wrap-small}
 use Rattle.address.specs.Flows.{no_flow}
 use Rattle.address.specs.declared.Flow.{Flow}
 use Rattle.segment.specs.Flags.{rst}
 use Rattle.segment.specs.declared.Segment.{Segment}
-use Rattle.connection.specs.Ends.{zeros, unheard, begun, sent, granted, ends_after}
+use Rattle.connection.specs.Scaling.{shift_in_force, effective_window}
+use Rattle.connection.specs.Ends.{zeros, unheard, syn_window, begun, sent, granted, ends_after}
 use Rattle.connection.specs.Decision.{verdict_on, free, opened, repeated, answered, carried, reset, passed}
 use Rattle.connection.specs.Sound.{sound_connection}
 use Rattle.connection.specs.declared.Connection.{Connection}
@@ -49,13 +52,13 @@ further-below base a b = wrap-small _
 opening-fits : (g : Segment) → SeqNumsFit (begun g)
 opening-fits g = record { end = plus-below _ _; edge = plus-below _ _ }
 
-sent-fits : (e : End) (g : Segment) → SeqNumsFit e → SeqNumsFit (sent e g)
+sent-fits : (e : End) (g : Segment) (w : OctetCount) → SeqNumsFit e → SeqNumsFit (sent e g w)
 unfolding sent
-sent-fits e g f = record { end = further-below e.end e.end _; edge = f.edge }
+sent-fits e g w f = record { end = further-below e.end e.end _; edge = f.edge }
 
-granted-fits : (e : End) (g : Segment) → SeqNumsFit e → SeqNumsFit (granted e g)
+granted-fits : (e : End) (g : Segment) (w : OctetCount) → SeqNumsFit e → SeqNumsFit (granted e g w)
 unfolding granted
-granted-fits e g f = record { end = f.end; edge = further-below e.end e.edge _ }
+granted-fits e g w f = record { end = f.end; edge = further-below e.end e.edge _ }
 
 -- Two ends stay two
 
@@ -72,45 +75,47 @@ two e f (suc i) = f
 both : (e f : End) → SeqNumsFit e → SeqNumsFit f → Two (e ∷ f ∷ [])
 both e f p q = record { of = two e f; is = refl; opener = p; answerer = q }
 
-two-ended : (c : Connection) → Two c.ends → TwoEnded c
-two-ended c t = (t.of, record { two = t.is; opener = t.opener; answerer = t.answerer })
+two-ended : (c : Connection) → Two c.ends → length c.shifts ≡ 2 → TwoEnded c
+two-ended c t shifts = (t.of, record { two = t.is; opener = t.opener; answerer = t.answerer; two_shifts = shifts })
 
 zeros-fit : SeqNumsFit zeros
 zeros-fit = record { end = omega arith; edge = omega arith }
 
 pub free-two-ended : TwoEnded free
-free-two-ended = two-ended free (both zeros zeros zeros-fit zeros-fit)
+free-two-ended = two-ended free (both zeros zeros zeros-fit zeros-fit) refl
 
 opened-two-ended : (side : ℕ) (g : Segment) (now : ℕ) → TwoEnded (opened side g now)
 unfolding opened
-opened-two-ended side g now = two-ended _ (both (begun g) unheard (opening-fits g) record { end = omega arith; edge = omega arith })
+opened-two-ended side g now = two-ended _ (both (begun g) unheard (opening-fits g) record { end = omega arith; edge = omega arith }) refl
 
 module _ (c : Connection) (x : ℕ → End) (ends : TwoEnds c x) (g : Segment) (now : ℕ) where
   repeated-two-ended : TwoEnded (repeated c g now)
   unfolding repeated
-  repeated-two-ended = two-ended _ (rw ends.two (both _ (x 1) record { end = ends.opener.end; edge = ends.opener.edge } ends.answerer))
+  repeated-two-ended = two-ended _ (rw ends.two (both _ (x 1) record { end = ends.opener.end; edge = ends.opener.edge } ends.answerer)) ends.two_shifts
 
   answered-two-ended : TwoEnded (answered c g now)
   unfolding answered
-  answered-two-ended = two-ended _ (rw ends.two (both (granted (x 0) g) (begun g) (granted-fits (x 0) g ends.opener) (opening-fits g)))
+  answered-two-ended = two-ended _ (rw ends.two (both (granted (x 0) g (syn_window g)) (begun g) (granted-fits (x 0) g (syn_window g) ends.opener) (opening-fits g))) refl
 
-  ends_after-two : (i : ℕ) → i < 2 → Two (ends_after (x 0 ∷ x 1 ∷ []) i g)
+  ends_after-two : (w : OctetCount) (i : ℕ) → i < 2 → Two (ends_after (x 0 ∷ x 1 ∷ []) i g w)
   unfolding ends_after
-  ends_after-two zero h =
-      let F = sent-fits (x 0) g ends.opener in
-      when-either Two _ _ _ (both _ _ F (granted-fits (x 1) g ends.answerer)) (both _ _ F ends.answerer)
-  ends_after-two (suc zero) h =
-      let F = sent-fits (x 1) g ends.answerer in
-      when-either Two _ _ _ (both _ _ (granted-fits (x 0) g ends.opener) F) (both _ _ ends.opener F)
-  ends_after-two (suc (suc i)) h = absurd (omega arith)
+  ends_after-two w zero h =
+      let F = sent-fits (x 0) g w ends.opener in
+      when-either Two _ _ _ (both _ _ F (granted-fits (x 1) g w ends.answerer)) (both _ _ F ends.answerer)
+  ends_after-two w (suc zero) h =
+      let F = sent-fits (x 1) g w ends.answerer in
+      when-either Two _ _ _ (both _ _ (granted-fits (x 0) g w ends.opener) F) (both _ _ ends.opener F)
+  ends_after-two w (suc (suc i)) h = absurd (omega arith)
 
   carried-two-ended : (i : ℕ) → i < 2 → TwoEnded (carried c i g now)
   unfolding carried
-  carried-two-ended i h = two-ended _ (rw ends.two (ends_after-two i h))
+  carried-two-ended i h =
+      let w = effective_window (shift_in_force c i) g in
+      two-ended _ (subst (λ (l : List End). Two (ends_after l i g w)) (sym ends.two) (ends_after-two w i h)) ends.two_shifts
 
   reset-two-ended : TwoEnded (reset c now)
   unfolding reset
-  reset-two-ended = (x, record { two = ends.two; opener = ends.opener; answerer = ends.answerer })
+  reset-two-ended = (x, record { two = ends.two; opener = ends.opener; answerer = ends.answerer; two_shifts = ends.two_shifts })
 
   passed-two-ended : (i : ℕ) → i < 2 → TwoEnded (passed c i g now)
   unfolding passed

@@ -18,7 +18,7 @@ use Rattle.honest.specs.Machine.{refused, asks, Machine, clock_in, asks_here, br
 use Rattle.honest.specs.Rules.{Label, opening, arrival, other, Event, send, call, delivery, Pair, sent_by, Sent, Arrived, received_by, highest_ack_at_sending, has_answer, Allowed, Honest, openers_syn, answerers_syn_ack, later, any_reset, overtaking_allowance}
 use Rattle.honest.specs.Honest.{Told, passes, next_clock, after_segment, passed_on_ours, some_reset, after_elsewhere, after_call, told, said, Live, InOrderOrOvertaken, WasPassed, Arrives, Opening, FairCall, Legal, ArrivalAsWritten, LegalAsWritten}
 use Rattle.honest.specs.Instance.{ViewCall, view_machine}
-use Rattle.honest.specs.Carries.{Carries, none, sent, called, refused_alone, delivered, LegalCarried, LegalAsWrittenCarried, with_call, with_other, readings, if_asked, others_said, summary_of, SummaryCarried}
+use Rattle.honest.specs.Carries.{Carries, none, sent, called, refused_alone, delivered, LegalCarried, LegalAsWrittenCarried, with_call, with_other, readings, if_asked, others_said, summary_of, SummaryCarried, TableCarried}
 use Rattle.honest.proofs.Demand3.{on-ours-facts}
 
 -- What ends have sent and received, and what has arrived
@@ -75,13 +75,14 @@ module _ (M : Machine) where
 
   allowed-carried : (P : Pair) (p : LineSegment) {L : Carrying} {N : Carried} → Carries M L N → Allowed P p N → Allowed P p L
   allowed-carried P p c (openers_syn r) =
-      openers_syn record { by_opener = r.by_opener; flags = r.flags; start = r.start; until_syn_ack = answered-same 0 c ∙ r.until_syn_ack }
+      openers_syn record { by_opener = r.by_opener; flags = r.flags; start = r.start; offer = r.offer; until_syn_ack = answered-same 0 c ∙ r.until_syn_ack }
   allowed-carried P p c (answerers_syn_ack r) =
       answerers_syn_ack record {
         by_answerer = r.by_answerer;
         has_syn = rw (received_by-same 1 c) r.has_syn;
         flags = r.flags;
         start = r.start;
+        offer = r.offer;
         acks_syn = r.acks_syn;
         until_ack = answered-same 1 c ∙ r.until_ack;
       }
@@ -295,7 +296,7 @@ module _ (M : Machine) (Sound : M.State → Type 0) (keeps : KeepsTo M Sound) (s
       written-arrival-carried P k p r = record {
         after_opening = opened-same ∙ r.after_opening;
         arrives = arrives-carried P k p r.arrives;
-        order = order-carried overtaking_allowance k p r.order;
+        order = order-carried (overtaking_allowance P p.from) k p r.order;
         neither_syn_nor_reset = λ j g was. r.neither_syn_nor_reset j g (arrived-carries M j g c was);
         live = live-carried r.live;
         reset_passes = λ reset. passes_same ∙ r.reset_passes reset;
@@ -306,7 +307,7 @@ module _ (M : Machine) (Sound : M.State → Type 0) (keeps : KeepsTo M Sound) (s
       fair-call-carried P (arrival k p) r = record {
         after_opening = opened-same ∙ r.after_opening;
         arrives = arrives-carried P k p r.arrives;
-        order = λ none. order-carried overtaking_allowance k p (r.order none);
+        order = λ none. order-carried (overtaking_allowance P p.from) k p (r.order none);
         live = live-carried r.live;
         reset_passes = λ reset. passes_same ∙ r.reset_passes reset;
       }
@@ -362,3 +363,6 @@ legal-as-written-carried M Sound keeps s₀ sound P L N carries legal = written-
 
 pub summary-carried : (M : Machine) (Sound : M.State → Type 0) → KeepsTo M Sound → SummaryCarried M Sound
 summary-carried M Sound keeps s₀ sound L N carries = summary-along M Sound keeps s₀ sound carries
+
+pub table-carried : (M : Machine) (Sound : M.State → Type 0) → KeepsTo M Sound → TableCarried M Sound
+table-carried M Sound keeps s₀ sound L N carries = view-same M Sound keeps s₀ sound carries

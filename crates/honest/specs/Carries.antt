@@ -96,3 +96,9 @@ module _ (M : Machine) (Sound : M.State → Type 0) where
   SummaryCarried =
       (s₀ : M.State) → Sound s₀ → (L : List (Event M.Call)) (N : List (Event ViewCall)) → Carries M L N →
       summary_of M s₀ L ≡ summary_of (view_machine M.number) (M.view s₀) N
+
+  -- it leaves the same table
+  abbrev pub TableCarried : Type 0
+  TableCarried =
+      (s₀ : M.State) → Sound s₀ → (L : List (Event M.Call)) (N : List (Event ViewCall)) → Carries M L N →
+      M.view (told M s₀ L).state ≡ (told (view_machine M.number) (M.view s₀) N).state

@@ -10,7 +10,7 @@ use Rattle.connection.specs.declared.End.{End}
 use Rattle.rows.specs.Rows.{Bodies, View}
 use Rattle.rows.specs.Connections.{connections}
 use Rattle.history.specs.Numbers.{on_ring}
-use Rattle.history.specs.History.{LineSegment, numbers_of, fins_of, stage_of, placed, judge}
+use Rattle.history.specs.History.{LineSegment, numbers_of, fins_of, stage_of, shifts_of, offers_of, placed, judge}
 
 -- newest first; a free entry has no segments
 pub record History : Type 0 where
@@ -49,6 +49,8 @@ connection_of h = record {
   fins = fins_of h.segments;
   deadline = h.deadline;
   ends = records_of h.segments;
+  shifts = shifts_of h.segments;
+  offers = offers_of h.segments;
 }
 
 abbrev pub in_numbers : View histories → View connections

@@ -1,8 +1,9 @@
--- Demand 3 (document 01, "Honest ends"; of resets and overtaken segments document 02, items 6 and 7): "a single claim about the list of events
+-- Demand 3 (document 01, "Honest ends"; of resets, overtaken segments and scaled windows document 02, items 6 to 8): "a single claim about the list of events
 -- and not one for each call". Lists are newest first. Its sentences stand above what states them, in its order but for what needs another first.
 use Rattle.std.specs.Prelude.{ℕ, ◌+◌, ◌≤◌, ◌<◌, max, ◌≡◌, ◌⊎◌, Bool, true, false, ◌&&◌, List, [], ◌∷◌}
 use Rattle.choice.specs.Choice.{when◌then◌else◌, ◌<ᵇ◌, ◌=ᵇ◌}
 use Rattle.segment.specs.Flags.{syn, rst, SYN, RST}
+use Rattle.segment.specs.Offers.{no_offer}
 use Rattle.connection.specs.Ends.{opener}
 use Rattle.connection.specs.Stages.{life_of}
 use Rattle.rows.specs.Rows.{Ask, match_of, nowhere}
@@ -19,7 +20,7 @@ bringing P p clock = record { side = side_of P p.from; clock = clock; key = key_
 
 -- what the history keeps of a reset that is no arrival: that it passed. Whoever sent it, its numbers count for nothing
 abbrev pub some_reset : LineSegment
-some_reset = record { from = opener; flags = RST; start = 0; length = 0; acked = 0; window = 0 }
+some_reset = record { from = opener; flags = RST; start = 0; length = 0; acked = 0; window = 0; offer = no_offer }
 
 module _ (M : Machine) where
   abbrev pub Events : Type 0
@@ -155,7 +156,7 @@ module _ (M : Machine) where
 
     abbrev pub FairCall : Label → M.Call → Events → Type 0
     FairCall (opening k p) q L = Opening s₀ P k p q L
-    FairCall (arrival k p) q L = Arrival overtaking_allowance k p q L
+    FairCall (arrival k p) q L = Arrival (overtaking_allowance P p.from) k p q L
     -- "After the opening, a call that is no arrival may give anything, but isn't passed on the opening's entry", unless it brings a reset,
     -- whoever sent that: from stage 2 on it gives stage 6; in stage 1 it frees, and no arrival is live after it (`until`)
     FairCall other q L = passed_on_ours (told s₀ L) q ≡ true → brings_reset (M.reads q) ≡ true
@@ -197,7 +198,7 @@ module _ (M : Machine) (s₀ : M.State) (P : Pair) where
     pub after_opening : (told M s₀ L).opening_seen ≡ true
     pub arrives : Arrives M P k p q L
     -- "an honest segment, neither SYN nor reset, may also arrive, first or again, after being overtaken, if .." "No other arrival is out of order."
-    pub order : InOrderOrOvertaken M overtaking_allowance k p L
+    pub order : InOrderOrOvertaken M (overtaking_allowance P p.from) k p L
     pub neither_syn_nor_reset :
         (j : ℕ) (g : LineSegment) → Arrived j g L → g.from ≡ p.from → k < j → (syn p.flags ≡ 0) × (rst p.flags ≡ 0)
     pub live : Live M (told M s₀ L) q

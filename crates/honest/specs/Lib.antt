@@ -10,3 +10,4 @@ pub mod Marked
 pub mod Witness
 pub mod Needed
 pub mod AsWritten
+pub mod Scaled

@@ -12,7 +12,7 @@ pub record Said (State : Type 0) : Type 0 where
   pub place : ℕ
   pub next : State
 
--- what a call is to the filter: refused before any connection is looked for (answers 1, 2, 5 to 10 and 16), with its answer and its place; asked;
+-- what a call is to the filter: refused before any connection is looked for (answers 1, 2, 5 to 10, 16 and 19), with its answer and its place; asked;
 -- or apart, on another part of the table than the one viewed, as the other owner's calls on a shared table (document 02, item 12); where the
 -- whole is viewed none is
 pub data Reading (A : Type 0) : Type 0 where

@@ -50,7 +50,7 @@ state_k = after_ask after_syn packet2
 abbrev pub entry11 : Entry connections
 entry11 = record {
   key = outward;
-  connection = record { stage = 3; side = 0; fins = 0; deadline = 432000000; ends = numbers 1 1 1 ∷ numbers 1 1 1 ∷ [] };
+  connection = record { stage = 3; side = 0; fins = 0; deadline = 432000000; ends = numbers 1 1 1 ∷ numbers 1 1 1 ∷ []; shifts = 0 ∷ 0 ∷ []; offers = 0 };
 }
 
 abbrev pub state11 : View connections

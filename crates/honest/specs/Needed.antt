@@ -1,8 +1,10 @@
 -- Premises of demand 3 are needed: for each that a comment below names, a list that is legal but for one event, which breaks it, and in which
 -- an arrival is then blocked, on a fresh table of one place. That the event breaks this premise and no other is for the reader to see, not in
 -- the type: `instead`, which would have been fair, differs in one number where it can. docs/DECISIONS.md names the premises without a list.
-use Rattle.std.specs.Prelude.{ℕ, ◌+◌, ◌-◌, ◌^◌, ◌≡◌, List, [], ◌∷◌, ◌++◌, reverse}
+use Rattle.std.specs.Prelude.{ℕ, ◌+◌, ◌-◌, ◌*◌, ◌^◌, ◌≡◌, List, [], ◌∷◌, ◌++◌, reverse}
 use Rattle.segment.specs.Flags.{SYN, SYN+ACK, ACK, FIN+ACK, RST, ACK+RST}
+use Rattle.segment.specs.Offers.{no_offer, offering}
+use Rattle.segment.specs.declared.Offer.{Offer}
 use Rattle.connection.specs.Ends.{opener, answerer}
 use Rattle.rows.specs.Rows.{View}
 use Rattle.rows.specs.Connections.{connections}
@@ -13,7 +15,7 @@ use Rattle.honest.specs.Rules.{opening, arrival, other, send, call, delivery, Pa
 use Rattle.honest.specs.Honest.{told, said, InOrderOrOvertaken, Arrival, Fair, Legal, LegalAsWritten}
 use Rattle.honest.specs.Instance.{view_machine}
 use Rattle.honest.specs.Demand2.{fresh}
-use Rattle.honest.specs.Witness.{pair, Piece, opener_line, opener's, answerer's, brings, Seen, sends, opens, arrives, delivers, uncounted}
+use Rattle.honest.specs.Witness.{neither, offered_by, pair_offering, pair, Piece, piece_of, opener_line, opener's, answerer's, brings, Seen, sends, opens, arrives, delivers, uncounted}
 
 -- What a list shows; its parts are told oldest first
 pub record Need : Type 0 where
@@ -72,13 +74,28 @@ got k p = delivers (λ _. p) k
 abbrev through : (k : ℕ) → Piece → List Seen
 through k p = sends p ∷ comes k 0 p ∷ got k p ∷ []
 
--- The handshake, with windows of 1000
+-- The handshake, with windows of 1000, by what the two ends offer
+
+module _ (offer : ℕ → Offer) where
+  abbrev syn_offering : Piece
+  syn_offering = piece_of offer opener SYN 0 1 0 1000 tt
+
+  abbrev syn_ack_offering : Piece
+  syn_ack_offering = piece_of offer answerer SYN+ACK 0 1 1 1000 tt
+
+  abbrev syn_offering_through : List Seen
+  syn_offering_through = sends syn_offering ∷ opens_at 0 syn_offering ∷ got 0 syn_offering ∷ []
+
+  abbrev handshake_offering : List Seen
+  handshake_offering = syn_offering_through ++ (through 0 syn_ack_offering ++ through 1 (piece_of offer opener ACK 1 0 1 1000 tt))
+
+-- where neither does
 
 abbrev first_syn : Piece
-first_syn = opener's SYN 0 1 0 1000 tt
+first_syn = syn_offering neither
 
 abbrev first_syn_ack : Piece
-first_syn_ack = answerer's SYN+ACK 0 1 1 1000 tt
+first_syn_ack = syn_ack_offering neither
 
 abbrev pub first_ack : Piece
 first_ack = opener's ACK 1 0 1 1000 tt
@@ -88,13 +105,13 @@ abbrev first_reset : Piece
 first_reset = answerer's ACK+RST 0 0 1 1000 tt
 
 abbrev syn_through : List Seen
-syn_through = sends first_syn ∷ opens_at 0 first_syn ∷ got 0 first_syn ∷ []
+syn_through = syn_offering_through neither
 
 abbrev pub syn_ack_through : List Seen
 syn_ack_through = syn_through ++ through 0 first_syn_ack
 
 abbrev handshake : List Seen
-handshake = syn_ack_through ++ through 1 first_ack
+handshake = handshake_offering neither
 
 -- 2,000 octets of the opener, the first half acknowledged: its end is 2001, and bound II asks for 1001 or above
 abbrev opener_ahead : List Seen
@@ -123,21 +140,19 @@ starts_low =
     ++ (sends starts_at2 ∷ (through 1 (answerer's ACK 1 0 2 1000 tt)
     ++ (sends (opener's ACK 2 1000 1 1000 tt) ∷ comes 4 0 (opener's ACK 2 1000 1 1000 tt) ∷ []))))
 
--- it acknowledges 466 octets and grants the largest window, which the answerer fills: its end is 66002, and bound IV asks for 2 or above
 abbrev pub acks1 : Piece
 acks1 = opener's ACK 1 0 1 1000 tt
 
 abbrev pub acks2 : Piece
 acks2 = opener's ACK 1 0 2 1000 tt
 
-abbrev acks467 : Piece
-acks467 = opener's ACK 1 0 467 65535 tt
-
-abbrev pub acks_low : List Seen
-acks_low =
-    handshake ++ (through 1 (answerer's ACK 1 466 1 1000 tt)
-    ++ (sends acks1 ∷ sends acks2 ∷ (through 4 acks467
-    ++ (through 2 (answerer's ACK 467 65000 1 1000 tt) ++ through 3 (answerer's ACK 65467 535 1 1000 tt)))))
+-- by the two offers and the opener's shift: what overtook them acknowledges up to 2 + 465·2^shift and grants the largest window, which the answerer
+-- fills; its end is 2 + 66,000·2^shift, and bound IV asks for 2 or above
+abbrev pub acks_low : (offer : ℕ → Offer) (shift : ℕ) → List Seen
+acks_low offer shift =
+    handshake_offering offer ++ (through 1 (answerer's ACK (1 + 465 * 2 ^ shift) 1 1 1000 tt)
+    ++ (sends acks1 ∷ sends acks2 ∷ (through 4 (opener's ACK 1 0 (2 + 465 * 2 ^ shift) 65535 tt)
+    ++ through 2 (answerer's ACK (66000 * 2 ^ shift) 2 1 1000 tt))))
 
 abbrev need : (before : List Seen) (broken instead : Seen) (later : List Seen) (answer : ℕ) → Need
 need before broken instead later answer =
@@ -145,20 +160,30 @@ need before broken instead later answer =
 
 -- an end whose SYN is number 0 sends an empty ACK at 0
 abbrev zero_pair : Pair
-zero_pair = record { side = 0; key = outward; start = λ i. 0 }
+zero_pair = record { side = 0; key = outward; start = λ i. 0; offer = λ i. no_offer }
 
 abbrev zero_syn : Piece
-zero_syn = record { line = record { from = opener; flags = SYN; start = 0; length = 1; acked = 0; window = 1000 }; formed = tt }
+zero_syn = record { line = record { from = opener; flags = SYN; start = 0; length = 1; acked = 0; window = 1000; offer = no_offer }; formed = tt }
 
 abbrev zero_syn_ack : Piece
-zero_syn_ack = record { line = record { from = answerer; flags = SYN+ACK; start = 0; length = 1; acked = 1; window = 1000 }; formed = tt }
+zero_syn_ack = record { line = record { from = answerer; flags = SYN+ACK; start = 0; length = 1; acked = 1; window = 1000; offer = no_offer }; formed = tt }
 
 abbrev zero_ack : Piece
-zero_ack = record { line = record { from = answerer; flags = ACK; start = 0; length = 0; acked = 1; window = 1000 }; formed = tt }
+zero_ack = record { line = record { from = answerer; flags = ACK; start = 0; length = 0; acked = 1; window = 1000; offer = no_offer }; formed = tt }
 
 -- an opener's first ACK that acknowledges 0
 abbrev acks_nothing : Piece
-acks_nothing = record { line = record { from = opener; flags = ACK; start = 2 ^ 32 - 2; length = 0; acked = 0; window = 1000 }; formed = tt }
+acks_nothing = record { line = record { from = opener; flags = ACK; start = 2 ^ 32 - 2; length = 0; acked = 0; window = 1000; offer = no_offer }; formed = tt }
+
+-- Two ends that offer, the answerer a shift of 3, and 2,000 octets of the opener's, which only scaling grants
+
+abbrev zero_and_three : ℕ → Offer
+zero_and_three = offered_by (offering 0) (offering 3)
+
+abbrev scaled_octets : (k j : ℕ) → List Seen
+scaled_octets k j =
+    through k (opener's ACK 1 0 1 1000 tt) ++ (through j (answerer's ACK 1 0 1 1000 tt)
+    ++ (sends (opener's ACK 1 2000 1 1000 tt) ∷ comes (k + 1) 0 (opener's ACK 1 2000 1 1000 tt) ∷ []))
 
 -- What an end may send
 
@@ -169,6 +194,25 @@ of_sendings =
     (comes 1 0 (opener's SYN 1 1 0 1000 tt) ∷ []) 13
     -- "until it receives a SYN+ACK, and never again after"
     ∷ need (handshake ++ opener_ahead) (sends first_syn) (sends (opener's ACK 1001 0 1 1000 tt)) (comes 4 0 first_syn ∷ []) 14
+    -- "honest options being .. the same on each repeat": the opening SYN has none, the one that the answerer gets has; so the ends scale
+    ∷ record {
+      pair = pair_offering zero_and_three;
+      before = [];
+      broken = sends first_syn;
+      instead = sends (syn_offering zero_and_three);
+      later =
+          opens_at 0 first_syn ∷ (through 1 (syn_offering zero_and_three) ++ (through 0 (syn_ack_offering zero_and_three) ++ scaled_octets 2 1));
+      answer = 14;
+    }
+    -- the same of the SYN+ACK
+    ∷ record {
+      pair = pair_offering zero_and_three;
+      before = syn_offering_through zero_and_three;
+      broken = sends first_syn_ack;
+      instead = sends (syn_ack_offering zero_and_three);
+      later = comes 0 0 first_syn_ack ∷ (through 1 (syn_ack_offering zero_and_three) ++ scaled_octets 1 2);
+      answer = 14;
+    }
     -- the answerer "sends SYN+ACK acknowledging the SYN's end"
     ∷ need syn_through (sends (answerer's SYN+ACK 0 1 2 1000 tt)) (sends first_syn_ack) (comes 0 0 (answerer's SYN+ACK 0 1 2 1000 tt) ∷ []) 13
     -- "repeats only that"
@@ -218,7 +262,7 @@ of_calls =
     -- segment's start": it was one octet further
     ∷ need starts_low (comes 2 0 starts_at1) (comes 3 0 starts_at2) [] 14
     -- "and acknowledges at most 465 octets further than it": it acknowledges 466 octets further
-    ∷ need acks_low (comes 2 0 acks1) (comes 3 0 acks2) [] 15
+    ∷ need (acks_low neither 0) (comes 2 0 acks1) (comes 3 0 acks2) [] 15
     -- "The opening is an arrival": of a SYN that the opener hasn't sent
     ∷ need (sends first_syn ∷ []) (opens_at 0 (opener's SYN 5 1 0 1000 tt)) (opens_at 0 first_syn)
     (got 0 (opener's SYN 5 1 0 1000 tt) ∷ sends first_syn_ack ∷ comes 0 0 first_syn_ack ∷ []) 13
@@ -244,16 +288,22 @@ of_calls =
     ∷ need (syn_through ++ (sends first_reset ∷ sends first_syn_ack ∷ comes 0 0 first_reset ∷ [])) (comes 1 0 first_syn_ack) (got 0 first_syn) [] 11
     ∷ []
 
--- Both limits of document 02, item 7, are exact, in its own words too
+-- Both limits of document 02, item 7, are exact, in its own words too, the first as item 8 has it
 
--- a segment overtaken by one that acknowledges 465 octets further is legal, and passes with an acknowledgement 66,000 below the other end's end; one
--- for which it is 466 has all that is asked of an arrival, with an allowance of 466, and is blocked
-abbrev pub AllowanceExact : Type 0
-AllowanceExact =
-    let L = reverse acks_low in
+-- a segment overtaken by one that acknowledges 465·2^shift octets further is legal, and passes with an acknowledgement 66,000·2^shift below the other
+-- end's end; one for which it is one octet more has all that is asked of an arrival, with an allowance of one octet more, and is blocked
+abbrev pub AllowanceExactBy : (offer : ℕ → Offer) (shift : ℕ) → Type 0
+AllowanceExactBy offer shift =
+    let P = pair_offering offer in
+    let L = reverse (acks_low offer shift) in
     let their_end = (numbers_of answerer (told M one L).history).end in
-    (LegalAsWritten M one pair (comes 3 0 acks2 ∷ L) × (their_end ≡ acks2.line.acked + 66000) × ((said M one L (brings 0 acks2)).answer ≡ 0))
-    × (Arrival M one pair 466 2 acks1.line (brings 0 acks1) L × (their_end ≡ acks1.line.acked + 66001) × ((said M one L (brings 0 acks1)).answer ≡ 15))
+    (LegalAsWritten M one P (comes 3 0 acks2 ∷ L) × (their_end ≡ acks2.line.acked + 66000 * 2 ^ shift) × ((said M one L (brings 0 acks2)).answer ≡ 0))
+    × (Arrival M one P (465 * 2 ^ shift + 1) 2 acks1.line (brings 0 acks1) L
+    × (their_end ≡ acks1.line.acked + 66000 * 2 ^ shift + 1) × ((said M one L (brings 0 acks1)).answer ≡ 15))
+
+-- unscaled, and under the largest shift
+abbrev pub AllowanceExact : Type 0
+AllowanceExact = AllowanceExactBy neither 0 × AllowanceExactBy (offered_by (offering 14) (offering 0)) 14
 
 -- a segment that starts at the highest acknowledgement that its sender had received when it sent the one that overtook it is legal, and passes; one
 -- that starts one octet lower would be allowed if it started one octet higher, and is blocked
@@ -262,7 +312,7 @@ StartExact =
     let L = reverse starts_low in
     let received = highest_ack_at_sending opener 4 L in
     (LegalAsWritten M one pair (comes 3 0 starts_at2 ∷ L) × (received ≡ starts_at2.line.start) × ((said M one L (brings 0 starts_at2)).answer ≡ 0))
-    × (InOrderOrOvertaken M overtaking_allowance 2 (opener_line ACK 2 1 1 1000) L
+    × (InOrderOrOvertaken M (overtaking_allowance pair opener) 2 (opener_line ACK 2 1 1 1000) L
     × (received ≡ starts_at1.line.start + 1) × ((said M one L (brings 0 starts_at1)).answer ≡ 14))
 
 -- The claim

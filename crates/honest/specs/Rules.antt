@@ -1,15 +1,16 @@
--- Honest ends (document 01; of resets and overtaken segments document 02, items 6 and 7): events, what was sent, has arrived and was received,
+-- Honest ends (document 01; of resets, overtaken segments and scaled windows document 02, items 6 to 8): events, what was sent, has arrived and was received,
 -- what an end may send, and what may overtake what on the way to the filter.
 -- In document 01's order, with its sentences above what states them. Lists are newest first: in x ∷ L, x comes after all of L. "Places here are
 -- whole numbers": segments are those of `history`, with places on the unwrapped line.
-use Rattle.std.specs.Prelude.{ℕ, ◌+◌, ◌<◌, ◌≤◌, max, ◌≡◌, ◌⊎◌, Bool, true, false, ◌&&◌, ◌||◌, not, List, [], ◌∷◌, length}
+use Rattle.std.specs.Prelude.{ℕ, ◌+◌, ◌*◌, ◌^◌, ◌<◌, ◌≤◌, max, ◌≡◌, ◌⊎◌, Bool, true, false, ◌&&◌, ◌||◌, not, List, [], ◌∷◌, length}
 use Rattle.choice.specs.Choice.{when◌then◌else◌, ◌=ᵇ◌}
 use Rattle.address.specs.Flows.{reversed}
 use Rattle.address.specs.declared.Flow.{Flow}
 use Rattle.segment.specs.Flags.{syn, rst, is_reset, ack, SYN, SYN+ACK}
+use Rattle.segment.specs.declared.Offer.{Offer}
 use Rattle.connection.specs.Ends.{opener, answerer, other_end}
 use Rattle.rows.specs.Rows.{other_side}
-use Rattle.history.specs.History.{LineSegment, Formed}
+use Rattle.history.specs.History.{LineSegment, shift_by, window_under, Formed}
 
 -- Events
 
@@ -32,11 +33,12 @@ pub data Event (Call : Type 0) : Type 0 where
   call : Call → Label → Event Call
   delivery : (k : ℕ) (p : LineSegment) → Event Call
 
--- two ends: the opener's side, addresses and ports as the opener has them, and the number of each end's SYN
+-- two ends: the opener's side, addresses and ports as the opener has them, and of each end the number of its SYN and what it offers on it
 pub record Pair : Type 0 where
   pub side : ℕ
   pub key : Flow
   pub start : ℕ → ℕ
+  pub offer : ℕ → Offer
 
 -- side, addresses and ports of an end; "the answerer's is the one that the opener's isn't"
 abbrev pub side_of : Pair → ℕ → ℕ
@@ -91,12 +93,13 @@ unfoldable pub some : (LineSegment → Bool) → List LineSegment → Bool
 some test [] = false
 some test (p ∷ l) = (not (is_reset p.flags) && test p) || some test l
 
--- acknowledgement, right edge a + max(w, 1), and end (FIN counted) of a segment; one without ACK has neither of the first two
+-- acknowledgement, right edge a + max(w, 1), and end (FIN counted) of a segment; one without ACK has neither of the first two. "Demand 3 covers
+-- scaled windows": both ends reckon with w as their two offers make it count
 abbrev pub ack_of : LineSegment → ℕ
 ack_of p = when ack p.flags =ᵇ 1 then p.acked else 0
 
-abbrev pub edge_of : LineSegment → ℕ
-edge_of p = when ack p.flags =ᵇ 1 then p.acked + max p.window 1 else 0
+abbrev pub edge_of : Pair → LineSegment → ℕ
+edge_of P p = when ack p.flags =ᵇ 1 then p.acked + max (window_under P.offer p) 1 else 0
 
 abbrev pub end_of : LineSegment → ℕ
 end_of p = p.start + p.length
@@ -120,11 +123,13 @@ has_answer i L =
 -- The rules: what an end may send, by what was sent and received before
 
 module _ (P : Pair) {Call : Type 0} (p : LineSegment) (L : List (Event Call)) where
-  -- "The opener sends SYN, repeats only that until it receives a SYN+ACK, and never again after." (A repeat's window is free)
+  -- "The opener sends SYN, repeats only that until it receives a SYN+ACK, and never again after." (A repeat's window is free; its options are "the
+  -- same on each repeat": document 02, item 8)
   pub record OpenersSyn : Type 0 where
     pub by_opener : p.from ≡ opener
     pub flags : p.flags ≡ SYN
     pub start : p.start ≡ P.start opener
+    pub offer : p.offer ≡ P.offer opener
     pub until_syn_ack : has_answer opener L ≡ false
 
   -- "The answerer, having received the SYN, sends SYN+ACK acknowledging the SYN's end, and repeats only that until it receives an ACK."
@@ -133,6 +138,7 @@ module _ (P : Pair) {Call : Type 0} (p : LineSegment) (L : List (Event Call)) wh
     pub has_syn : some (λ g. g.flags =ᵇ SYN) (received_by answerer L) ≡ true
     pub flags : p.flags ≡ SYN+ACK
     pub start : p.start ≡ P.start answerer
+    pub offer : p.offer ≡ P.offer answerer
     pub acks_syn : p.acked ≡ P.start opener + 1
     pub until_ack : has_answer answerer L ≡ false
 
@@ -145,7 +151,7 @@ module _ (P : Pair) {Call : Type 0} (p : LineSegment) (L : List (Event Call)) wh
     -- "starts at or above the highest acknowledgement its sender has received,"
     pub starts : highest ack_of (received_by p.from L) ≤ p.start
     -- "ends (FIN counted) at or below the highest a + max(w, 1) received,"
-    pub ends : end_of p ≤ highest edge_of (received_by p.from L)
+    pub ends : end_of p ≤ highest (edge_of P) (received_by p.from L)
     -- "and acknowledges no less than the end of the other end's SYN"
     pub acks_syn : P.start (other_end p.from) + 1 ≤ p.acked
     -- "and no further than the highest end received."
@@ -166,17 +172,17 @@ module _ (P : Pair) {Call : Type 0} (p : LineSegment) (L : List (Event Call)) wh
     later : LaterSegment → Allowed
     any_reset : AnyReset → Allowed
 
-  -- "Each packet is well formed by answers 5 to 10", and "Honest ends send right checksums" (document 02, item 5): of the segment, a 16-bit
-  -- window and no payload with SYN; the rest is its packet's, which has to be read as this segment (`Arrives`)
+  -- "Each packet is well formed by answers 5 to 10", "Honest ends send right checksums" and "honest options being well formed" (document 02, items
+  -- 5 and 8): of the segment, a 16-bit window and no payload with SYN; the rest is its packet's, which has to be read as this segment (`Arrives`)
   pub record Honest : Type 0 where
     pub allowed : Allowed
     pub formed : Formed p
 
 -- On the way to the filter (document 02, item 7)
 
--- "at most 465 octets further"
-abbrev pub overtaking_allowance : ℕ
-overtaking_allowance = 465
+-- "at most 465 octets further"; with item 8, 465·2^k, "k being the acknowledging end's shift, 0 unless both offered"
+abbrev pub overtaking_allowance : Pair → (from : ℕ) → ℕ
+overtaking_allowance P from = 465 * 2 ^ shift_by P.offer from
 
 -- g, sent while highest_ack was the highest acknowledgement that its sender had received, may overtake p
 pub record MayOvertake (allowance highest_ack : ℕ) (g p : LineSegment) : Type 0 where

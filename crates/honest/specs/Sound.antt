@@ -13,7 +13,7 @@ SoundView v =
     (p : ℕ) → p < v.places →
     (v.entry p ≡ free_entry connections) ⊎ (sound_connection v.clock (v.entry p).connection ≡ true)
 
--- each connection has two records, with 32-bit sequence numbers
+-- each connection has two records, with 32-bit sequence numbers, and two shifts
 abbrev pub TwoEnded : Connection → Type 0
 TwoEnded c = (x : ℕ → End) × TwoEnds c x
 

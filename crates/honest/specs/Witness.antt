@@ -5,14 +5,16 @@
 -- repeats, resends, segments overtaken before the filter, deliveries out of order, a clock set back, and other traffic, blocked and passed.
 use Rattle.std.specs.Prelude.{ℕ, zero, suc, ◌+◌, ◌-◌, ◌^◌, ◌≤◌, ◌≡◌, refl, Bool, true, false, not, ◌&&◌, ◌||◌, List, [], ◌∷◌, reverse, T, get_or}
 use Rattle.std.proofs.Common.{arith, leb-true, eqb-true, eq-eqb}
-use Rattle.choice.specs.Choice.{◌=ᵇ◌, ◌≤ᵇ◌}
+use Rattle.choice.specs.Choice.{when◌then◌else◌, ◌=ᵇ◌, ◌≤ᵇ◌}
 use Rattle.choice.proofs.Choice.{when-either}
 use Rattle.choice.proofs.Tests.{&&-true, not-||-true}
 use Rattle.serial.proofs.Ring.{wrap-small}
 use Rattle.address.specs.Flows.{dotted, endpoint, between}
 use Rattle.address.specs.declared.Flow.{Flow}
 use Rattle.segment.specs.Flags.{syn, SYN, SYN+ACK, ACK, FIN+ACK, RST, RST+FIN, ACK+RST}
-use Rattle.connection.specs.Ends.{opener, answerer}
+use Rattle.segment.specs.Offers.{no_offer}
+use Rattle.segment.specs.declared.Offer.{Offer}
+use Rattle.connection.specs.Ends.{opener, answerer, other_end}
 use Rattle.rows.specs.Rows.{nowhere}
 use Rattle.rows.specs.Examples.{outward}
 use Rattle.history.specs.History.{LineSegment, on_wire, Placeable}
@@ -20,14 +22,25 @@ use Rattle.honest.specs.Rules.{opening, arrival, other, Event, send, call, deliv
 use Rattle.honest.specs.Instance.{ViewCall}
 use Rattle.honest.specs.Carries.{Summary}
 
--- The pair: the opener's SYN is number 2^32 − 3, the answerer's 2^32 − 2
+-- The pair: the opener's SYN is number 2^32 − 3, the answerer's 2^32 − 2; here neither offers to scale its windows
 
 abbrev pub syn_number : ℕ → ℕ
 syn_number zero = 2 ^ 32 - 3
 syn_number (suc i) = 2 ^ 32 - 2
 
+abbrev pub pair_offering : (ℕ → Offer) → Pair
+pair_offering offer = record { side = 0; key = outward; start = syn_number; offer = offer }
+
+abbrev pub neither : ℕ → Offer
+neither i = no_offer
+
+-- what the opener offers, and the answerer
+abbrev pub offered_by : Offer → Offer → ℕ → Offer
+offered_by o a zero = o
+offered_by o a (suc i) = a
+
 abbrev pub pair : Pair
-pair = record { side = 0; key = outward; start = syn_number }
+pair = pair_offering neither
 
 -- Segments
 
@@ -54,18 +67,29 @@ pub record Piece : Type 0 where
   pub line : LineSegment
   pub formed : T (carriable line)
 
--- by flags, s, n, a and w; s and a are counted from the SYN of the end that they belong to
+-- by flags, s, n, a and w; s and a are counted from the SYN of the end that they belong to. A SYN has what its end offers
+abbrev pub line_of : (offer : ℕ → Offer) (from flags s n a w : ℕ) → LineSegment
+line_of offer from flags s n a w = record {
+  from = from;
+  flags = flags;
+  start = syn_number from + s;
+  length = n;
+  acked = syn_number (other_end from) + a;
+  window = w;
+  offer = when syn flags =ᵇ 1 then offer from else no_offer;
+}
+
+abbrev pub piece_of : (offer : ℕ → Offer) (from flags s n a w : ℕ) → T (carriable (line_of offer from flags s n a w)) → Piece
+piece_of offer from flags s n a w formed = record { line = line_of offer from flags s n a w; formed = formed }
+
 abbrev pub opener_line : (flags s n a w : ℕ) → LineSegment
-opener_line flags s n a w = record { from = opener; flags = flags; start = syn_number opener + s; length = n; acked = syn_number answerer + a; window = w }
+opener_line = line_of neither opener
 
-abbrev pub answerer_line : (flags s n a w : ℕ) → LineSegment
-answerer_line flags s n a w = record { from = answerer; flags = flags; start = syn_number answerer + s; length = n; acked = syn_number opener + a; window = w }
+abbrev pub opener's : (flags s n a w : ℕ) → T (carriable (line_of neither opener flags s n a w)) → Piece
+opener's = piece_of neither opener
 
-abbrev pub opener's : (flags s n a w : ℕ) → T (carriable (opener_line flags s n a w)) → Piece
-opener's flags s n a w formed = record { line = opener_line flags s n a w; formed = formed }
-
-abbrev pub answerer's : (flags s n a w : ℕ) → T (carriable (answerer_line flags s n a w)) → Piece
-answerer's flags s n a w formed = record { line = answerer_line flags s n a w; formed = formed }
+abbrev pub answerer's : (flags s n a w : ℕ) → T (carriable (line_of neither answerer flags s n a w)) → Piece
+answerer's = piece_of neither answerer
 
 -- what the opener sends, in order
 abbrev pub opener_sends : List Piece

@@ -7,19 +7,21 @@ use lib.ListN.{length, get_or, take, drop, length-append, length-drop, get_or-ap
 use lib.Seq.{take-append-le, drop-append-le}
 use borrow.Author.Tests.{le-ltb, ltb-false}
 use Rattle.choice.specs.Choice.{◌<ᵇ◌}
-use Rattle.choice.proofs.Choice.{when-else-past}
+use Rattle.choice.proofs.Choice.{when-else, when-else-past}
 use Rattle.octets.specs.BigEndian.{big_endian}
 use Rattle.octets.proofs.BigEndian.{big_endian-agree}
 use Rattle.address.specs.Address.{address_size, address_at}
 use Rattle.address.specs.declared.Version.{Version}
 use Rattle.address.specs.declared.Version.TheVariants.{V4}
 use Rattle.address.proofs.Laws.{address_at-agree}
-use Rattle.packet.specs.Header.{header_length, total_length}
+use Rattle.packet.specs.Header.{header_length, total_length, data_offset}
+use Rattle.packet.specs.Options.{option_rows}
 use Rattle.packet.specs.TcpSum.{segment_octets, tcp_sum}
 use Rattle.packet.specs.Read.{ipv4_addresses, ipv4_header, tcp_rows, on_header, rows6to8}
 use Rattle.packet.specs.Ignored.{PastTotalIgnored}
 use Rattle.packet.specs.declared.IpRead.{IpRead}
 use Rattle.packet.specs.declared.IpRead.TheVariants.{BadHeader, CarriesTcp}
+use Rattle.packet.proofs.Options.{walk-agree}
 use Rattle.packet.proofs.Readable.{ipv4-carries}
 
 module _ (p past : List ℕ) where
@@ -39,7 +41,14 @@ module _ (p past : List ℕ) where
   length-test-unchanged n enough =
       le-ltb (length (p ++ past)) n (rw (length-append p past) (omega arith)) ∙ sym (le-ltb (length p) n enough)
 
-  -- Rows 9, 16 and 10, of every version
+  -- Rows 9, 16, 10 and 19, of every version
+
+  -- the options end in the packet
+  options-unchanged : (h : ℕ) → h + 20 ≤ length p → h + data_offset p h ≤ length p → option_rows (p ++ past) h ≡ option_rows p h
+  unfolding option_rows
+  options-unchanged h room fits =
+      let same = walk-agree (p ++ past) p (h + data_offset p h) (λ i below. octet-unchanged i (omega arith)) (data_offset p h - 20) (h + 20) in
+      rw (octet-unchanged (h + 12) (omega arith), octet-unchanged (h + 13) (omega arith), same)
 
   module _ (v : Version) (addresses : ℕ) (inside : addresses + address_size v + address_size v ≤ length p) where
     address-unchanged : (at : ℕ) → at + address_size v ≤ length p → address_at v (p ++ past) at ≡ address_at v p at
@@ -61,6 +70,10 @@ module _ (p past : List ℕ) where
           big_endian-unchanged 2 (h + 14) (omega arith),
           segment-unchanged h t (omega arith) given,
         )
+        (when-else _ _
+        (when-else-past _ refl λ e.
+        let fits : data_offset p h ≤ t - h = ltb-false (t - h) (data_offset p h) e in
+        rw (options-unchanged h (omega arith) (omega arith))))
 
     -- what the IP header carries ends in the packet
     on_header-unchanged :

@@ -1,5 +1,5 @@
 -- A refusal's offset points into the packet.
-use Prim.Native.Nat.{ℕ, ◌-◌, ◌≤◌, ◌<◌}
+use Prim.Native.Nat.{ℕ, ◌+◌, ◌-◌, ◌≤◌, ◌<◌}
 use mathlib.Core.Path.{◌≡◌, refl, subst}
 use mathlib.Core.Logic.{inl, inr}
 use mathlib.Core.List.{List}
@@ -8,17 +8,22 @@ use lib.ListN.{length}
 use borrow.Author.Tests.{ltb-false}
 use Rattle.choice.proofs.Choice.{when-either, when-cases}
 use Rattle.address.specs.declared.Version.{Version}
-use Rattle.packet.specs.Header.{header_length, total_length, control_bits}
-use Rattle.packet.specs.Read.{rows6to8, ipv4_header, payload, row10, on_flags, tcp_rows, on_header}
+use Rattle.segment.specs.declared.Offer.{Offer}
+use Rattle.packet.specs.Header.{header_length, total_length, data_offset, control_bits}
+use Rattle.packet.specs.Options.{option_rows}
+use Rattle.packet.specs.Read.{rows6to8, ipv4_header, payload, row10, on_flags, on_options, tcp_rows, on_header}
 use Rattle.packet.specs.Reader.{PointsInto}
 use Rattle.packet.specs.declared.Cause.{Cause}
 use Rattle.packet.specs.declared.FlagCheck.{FlagCheck}
 use Rattle.packet.specs.declared.FlagCheck.TheVariants.{BadFlags, Fine}
 use Rattle.packet.specs.declared.IpRead.{IpRead}
 use Rattle.packet.specs.declared.IpRead.TheVariants.{BadHeader, CarriesTcp}
+use Rattle.packet.specs.declared.OptionWalk.{OptionWalk}
+use Rattle.packet.specs.declared.OptionWalk.TheVariants.{MalformedAt, Offers}
 use Rattle.packet.specs.declared.PacketRead.{PacketRead}
 use Rattle.packet.specs.declared.PacketRead.TheVariants.{Refused, Tcp}
 use Rattle.packet.proofs.Flags.{flags-offset}
+use Rattle.packet.proofs.Options.{StopsBefore, option_rows-stops}
 
 -- what an IP header carries begins within 60 bytes and ends in the packet
 abbrev pub HeaderPoints : List ℕ → IpRead → Type 0
@@ -32,7 +37,7 @@ ReadPoints p (Tcp k g) = Unit {0}
 inside : {p : List ℕ} {cause : Cause} {offset : ℕ} → offset < length p → offset < 120 → PointsInto p cause offset
 inside given below = record { given = inl given; below_120 = below }
 
--- Rows 9, 16 and 10, of every version
+-- Rows 9, 16, 10 and 19, of every version
 
 module _ (v : Version) (addresses : ℕ) (p : List ℕ) (h t : ℕ) (short : h ≤ 60) (behind : h ≤ t) (given : t ≤ length p) where
   flags-point :
@@ -43,15 +48,23 @@ module _ (v : Version) (addresses : ℕ) (p : List ℕ) (h t : ℕ) (short : h �
       inside (omega (arith, at)) (omega (arith, at))
   flags-point read Fine fine room points = points
 
+  -- 19 points into TCP's header, which has at most 60 bytes
+  options-point :
+      (read : Offer → PacketRead) (w : OptionWalk) → StopsBefore (h + data_offset p h) w → data_offset p h ≤ t - h →
+      ((o : Offer) → ReadPoints p (read o)) → ReadPoints p (on_options h w read)
+  options-point read (MalformedAt at) stops fits points = inside (omega (arith, stops)) (omega (arith, stops))
+  options-point read (Offers o) stops fits points = points o
+
   tcp_rows-point : ReadPoints p (tcp_rows v addresses p h t)
   unfolding tcp_rows
   tcp_rows-point =
       when-cases (ReadPoints p) _ _ _ (λ _. record { given = inr (inr refl, omega arith); below_120 = omega arith }) λ e.
       let room : 20 ≤ t - h = ltb-false (t - h) 20 e in
       when-either (ReadPoints p) _ _ _ (inside (omega arith) (omega arith))
-      (when-either (ReadPoints p) _ _ _ (inside (omega arith) (omega arith))
-      (when-either (ReadPoints p) _ _ _ (inside (omega arith) (omega arith))
-      (flags-point _ (row10 (control_bits p h) (payload p h t)) refl room tt)))
+      (when-cases (ReadPoints p) _ _ _ (λ _. inside (omega arith) (omega arith)) λ past.
+      when-either (ReadPoints p) _ _ _ (inside (omega arith) (omega arith))
+      (flags-point _ (row10 (control_bits p h) (payload p h t)) refl room
+      (options-point _ (option_rows p h) (option_rows-stops p h) (ltb-false (t - h) (data_offset p h) past) (λ _. tt))))
 
 pub header-points :
     (v : Version) (addresses : ℕ) (p : List ℕ) (r : IpRead) → HeaderPoints p r →

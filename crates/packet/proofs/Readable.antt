@@ -6,6 +6,7 @@ use mathlib.Core.List.{List}
 use native.Mathlib.Omega.{arith}
 use borrow.Author.Tests.{eq-eqb, eqb-true, eqb-false, not-false}
 use Rattle.choice.specs.Choice.{when◌then◌else◌, ◌=ᵇ◌}
+use Rattle.choice.proofs.Choice.{when-false}
 use Rattle.choice.proofs.Tests.{||-false, false-true}
 use Rattle.octets.specs.Octets.{Octets}
 use Rattle.octets.proofs.BigEndian.{big_endian<256^n}
@@ -15,16 +16,21 @@ use Rattle.address.specs.declared.Version.{Version}
 use Rattle.address.specs.declared.Version.TheVariants.{V4}
 use Rattle.address.proofs.Laws.{fits-flow_at}
 use Rattle.segment.specs.Flags.{fin, syn, rst, ack, control}
+use Rattle.segment.specs.Offers.{no_offer}
 use Rattle.segment.specs.Readable.{Readable}
+use Rattle.segment.specs.declared.Offer.{Offer}
 use Rattle.segment.specs.declared.Segment.{Segment}
 use Rattle.packet.specs.Header.{control_bits, header_length, total_length}
-use Rattle.packet.specs.Read.{rows6to8, ipv4_header, ipv4_addresses, payload, segment_of, row10, on_flags, tcp_rows, on_header, read_ipv4}
+use Rattle.packet.specs.Options.{option_rows}
+use Rattle.packet.specs.Read.{rows6to8, ipv4_header, ipv4_addresses, payload, segment_of, row10, on_flags, on_options, tcp_rows, on_header, read_ipv4}
 use Rattle.packet.specs.Reader.{ReaderOf}
 use Rattle.packet.specs.declared.Cause.{Cause}
 use Rattle.packet.specs.declared.FlagCheck.{FlagCheck}
 use Rattle.packet.specs.declared.FlagCheck.TheVariants.{BadFlags, Fine}
 use Rattle.packet.specs.declared.IpRead.{IpRead}
 use Rattle.packet.specs.declared.IpRead.TheVariants.{BadHeader, CarriesTcp}
+use Rattle.packet.specs.declared.OptionWalk.{OptionWalk}
+use Rattle.packet.specs.declared.OptionWalk.TheVariants.{MalformedAt, Offers}
 use Rattle.packet.specs.declared.PacketRead.{PacketRead}
 use Rattle.packet.specs.declared.PacketRead.TheVariants.{Refused, Tcp}
 use Rattle.packet.proofs.Flags.{bit-clear}
@@ -49,6 +55,12 @@ past-check :
     (check ≡ Fine) × (read ≡ Tcp f g)
 past-check h read (BadFlags cause) e = false-true cc
 past-check h read Fine e = (refl, e)
+
+past-options :
+    {f : Flow} {g : Segment} (h : ℕ) (read : Offer → PacketRead) (w : OptionWalk) → on_options h w read ≡ Tcp f g →
+    (o : Offer) × (w ≡ Offers o) × (read o ≡ Tcp f g)
+past-options h read (MalformedAt at) e = false-true cc
+past-options h read (Offers o) e = (o, refl, e)
 
 past-bad-header :
     {h t : ℕ} {rest : IpRead} (b : Bool) (cause : Cause) (offset : ℕ) → (when b then BadHeader cause offset else rest) ≡ CarriesTcp h t →
@@ -117,10 +129,18 @@ module _ (f n : ℕ) (fine : row10 f n ≡ Fine) where
 
 -- The segment
 
+offers-same : (a b : Offer) → Offers a ≡ Offers b → a ≡ b
+offers-same a b e = cc
+
+-- without SYN nothing is offered
+no-syn-no-offer : (p : List ℕ) (h : ℕ) (o : Offer) → option_rows p h ≡ Offers o → syn (control_bits p h) ≡ 0 → o ≡ no_offer
+unfolding option_rows
+no-syn-no-offer p h o offers clear = offers-same o no_offer (sym offers ∙ when-false _ _ _ (bit-clear (syn (control_bits p h)) clear))
+
 segment_of-readable :
-    (p : List ℕ) (h t : ℕ) → Octets p → t - h < 65536 → row10 (control_bits p h) (payload p h t) ≡ Fine →
-    Readable (segment_of p h t)
-segment_of-readable p h t octets small fine =
+    (p : List ℕ) (h t : ℕ) (o : Offer) → Octets p → t - h < 65536 → row10 (control_bits p h) (payload p h t) ≡ Fine → option_rows p h ≡ Offers o →
+    Readable (segment_of p h t o)
+segment_of-readable p h t o octets small fine offers =
     let x : ℕ = control_bits p h in
     let n : ℕ = payload p h t in
     let syn-x : syn (control x) ≡ 1 → syn x ≡ 1 = λ s. sym (syn-control x) ∙ s in
@@ -133,6 +153,7 @@ segment_of-readable p h t octets small fine =
       syn_alone = λ s. omega (arith, syn-x s, (row10-no-syn-fin x n fine (syn-x s)).0, row10-syn-alone x n fine (syn-x s));
       some_bit = λ s a. rst-control x ∙ row10-some-bit x n fine (sym (syn-control x) ∙ s) (sym (ack-control x) ∙ a);
       no_syn_fin = λ s. let none = row10-no-syn-fin x n fine (syn-x s) in (fin-control x ∙ none.0, rst-control x ∙ none.1);
+      syn_offers = λ s. no-syn-no-offer p h o offers (sym (syn-control x) ∙ s);
     }
 
 -- The reader of any version
@@ -143,22 +164,27 @@ record Stands (v : Version) (addresses : ℕ) (p : List ℕ) (r : IpRead) (k : F
   t : ℕ
   carries : r ≡ CarriesTcp h t
   fine : row10 (control_bits p h) (payload p h t) ≡ Fine
+  offer : Offer
+  offers : option_rows p h ≡ Offers offer
   flow : k ≡ flow_at v p addresses h
-  segment : g ≡ segment_of p h t
+  segment : g ≡ segment_of p h t offer
 
 module _ (v : Version) (addresses : ℕ) (p : List ℕ) (k : Flow) (g : Segment) where
   past-tcp_rows :
       (h t : ℕ) → tcp_rows v addresses p h t ≡ Tcp k g →
-      (row10 (control_bits p h) (payload p h t) ≡ Fine) × (Tcp (flow_at v p addresses h) (segment_of p h t) ≡ Tcp k g)
+      (row10 (control_bits p h) (payload p h t) ≡ Fine)
+      × ((o : Offer) × (option_rows p h ≡ Offers o) × (Tcp (flow_at v p addresses h) (segment_of p h t o) ≡ Tcp k g))
   unfolding tcp_rows
-  past-tcp_rows h t e = past-check _ _ _ (past-refusal _ _ _ (past-refusal _ _ _ (past-refusal _ _ _ (past-refusal _ _ _ e))))
+  past-tcp_rows h t e =
+      let both = past-check h _ (row10 (control_bits p h) (payload p h t)) (past-refusal _ _ _ (past-refusal _ _ _ (past-refusal _ _ _ (past-refusal _ _ _ e)))) in
+      (both.0, past-options h _ (option_rows p h) both.1)
 
   stands : (r : IpRead) → on_header v addresses p r ≡ Tcp k g → Stands v addresses p r k g
   stands (BadHeader cause offset) e = false-true cc
   stands (CarriesTcp h t) e =
       let both = past-tcp_rows h t e in
-      let same = both.1 in
-      record { h = h; t = t; carries = refl; fine = both.0; flow = cc; segment = cc }
+      let same = both.1.2 in
+      record { h = h; t = t; carries = refl; fine = both.0; offer = both.1.0; offers = both.1.1; flow = cc; segment = cc }
 
 -- a version's reader by its rows 5 to 8, if they let at most 65,535 octets follow the IP header, and point into the packet
 reader-of :
@@ -171,7 +197,7 @@ reader-of v addresses header span points = record {
       rw s.flow (fits-flow_at v p addresses s.h octets);
   segment = λ p k g octets e.
       let s = stands v addresses p k g (header p) e in
-      rw s.segment (segment_of-readable p s.h s.t octets (span p s.h s.t octets s.carries) s.fine);
+      rw s.segment (segment_of-readable p s.h s.t s.offer octets (span p s.h s.t octets s.carries) s.fine s.offers);
   points = λ p. header-points v addresses p (header p) (points p);
 }
 

@@ -1,6 +1,6 @@
--- What reading a packet gives: answers 5 to 10 of document 01 in its order, with 16 of document 02, item 5, after 9; 15 causes told apart, each
--- with the byte offset that document 02, items 2 and 5, gives it; or the flow and the segment.
--- The IP version decides rows 5 to 8 and where the addresses stand; rows 9, 16 and 10 are TCP's, and the same for every version.
+-- What reading a packet gives: answers 5 to 10 of document 01 in its order, with 16 of document 02, item 5, after 9, and 19 of item 8 after 10;
+-- 16 causes told apart, each with the byte offset that document 02, items 2, 5 and 8, gives it; or the flow and the segment.
+-- The IP version decides rows 5 to 8 and where the addresses stand; rows 9, 16, 10 and 19 are TCP's, and the same for every version.
 -- p is the packet's bytes, h its IP header's length, t its total length.
 use Rattle.std.specs.Prelude.{ℕ, ◌+◌, ◌-◌, ◌^◌, ◌≤◌, ◌<◌, ◌&&◌, ◌||◌, not, List, length, take}
 use Rattle.choice.specs.Choice.{when◌then◌else◌, ◌<ᵇ◌, ◌=ᵇ◌, ◌≠ᵇ◌}
@@ -9,16 +9,20 @@ use Rattle.address.specs.declared.Flow.{Flow}
 use Rattle.address.specs.declared.Version.{Version}
 use Rattle.address.specs.declared.Version.TheVariants.{V4}
 use Rattle.segment.specs.Flags.{fin, syn, rst, ack, control}
+use Rattle.segment.specs.declared.Offer.{Offer}
 use Rattle.segment.specs.declared.Segment.{Segment}
 use Rattle.packet.specs.Header.{version, header_length, total_length, more_fragments, fragment_offset, protocol, sequence_number, acknowledgment_number, data_offset, control_bits, window}
 use Rattle.packet.specs.TcpSum.{tcp_sum}
+use Rattle.packet.specs.Options.{option_rows}
 use Rattle.checksum.specs.Sum.{ones_sum}
 use Rattle.packet.specs.declared.Cause.{Cause}
-use Rattle.packet.specs.declared.Cause.TheVariants.{Short, OtherVersion, HeaderLength, TotalBelowHeader, TotalAboveGiven, HeaderSum, Fragment, Protocol, TcpShort, DataOffsetBelowFive, DataOffsetPastTotal, TcpSum, SynFinRst, NoSynAckRst, SynPayload}
+use Rattle.packet.specs.declared.Cause.TheVariants.{Short, OtherVersion, HeaderLength, TotalBelowHeader, TotalAboveGiven, HeaderSum, Fragment, Protocol, TcpShort, DataOffsetBelowFive, DataOffsetPastTotal, TcpSum, SynFinRst, NoSynAckRst, SynPayload, MalformedOption}
 use Rattle.packet.specs.declared.FlagCheck.{FlagCheck}
 use Rattle.packet.specs.declared.FlagCheck.TheVariants.{BadFlags, Fine}
 use Rattle.packet.specs.declared.IpRead.{IpRead}
 use Rattle.packet.specs.declared.IpRead.TheVariants.{BadHeader, CarriesTcp}
+use Rattle.packet.specs.declared.OptionWalk.{OptionWalk}
+use Rattle.packet.specs.declared.OptionWalk.TheVariants.{MalformedAt, Offers}
 use Rattle.packet.specs.declared.PacketRead.{PacketRead}
 use Rattle.packet.specs.declared.PacketRead.TheVariants.{Refused, Tcp}
 
@@ -41,37 +45,41 @@ cause_number TcpSum = 16
 cause_number SynFinRst = 10
 cause_number NoSynAckRst = 10
 cause_number SynPayload = 10
+cause_number MalformedOption = 19
 
 -- document 02, item 2, "where it broke": the offset of each cause from the packet's first byte; 5 to 8 as IPv4's header has its fields, 9, 16
--- and 10 as TCP's has, whatever version carries it
-abbrev pub cause_offset : ℕ → Cause → ℕ
+-- and 10 as TCP's has, whatever version carries it; 19 where the walk of the options stopped
+abbrev pub cause_offset : (h option : ℕ) → Cause → ℕ
 -- "5: 0 for the first three causes, 2 for total length"
-cause_offset h Short = 0
-cause_offset h OtherVersion = 0
-cause_offset h HeaderLength = 0
-cause_offset h TotalBelowHeader = 2
-cause_offset h TotalAboveGiven = 2
+cause_offset h option Short = 0
+cause_offset h option OtherVersion = 0
+cause_offset h option HeaderLength = 0
+cause_offset h option TotalBelowHeader = 2
+cause_offset h option TotalAboveGiven = 2
 -- "6: 10; 7: 6; 8: 9"
-cause_offset h HeaderSum = 10
-cause_offset h Fragment = 6
-cause_offset h Protocol = 9
+cause_offset h option HeaderSum = 10
+cause_offset h option Fragment = 6
+cause_offset h option Protocol = 9
 -- "9: h if under 20 bytes follow, else h + 12"
-cause_offset h TcpShort = h
-cause_offset h DataOffsetBelowFive = h + 12
-cause_offset h DataOffsetPastTotal = h + 12
+cause_offset h option TcpShort = h
+cause_offset h option DataOffsetBelowFive = h + 12
+cause_offset h option DataOffsetPastTotal = h + 12
 -- item 5: "offset h + 16"
-cause_offset h TcpSum = h + 16
+cause_offset h option TcpSum = h + 16
 -- "10: h + 13"
-cause_offset h SynFinRst = h + 13
-cause_offset h NoSynAckRst = h + 13
-cause_offset h SynPayload = h + 13
+cause_offset h option SynFinRst = h + 13
+cause_offset h option NoSynAckRst = h + 13
+cause_offset h option SynPayload = h + 13
+-- item 8: "offset of the bad option"
+cause_offset h option MalformedOption = option
 
--- a refusal has its cause and its offset: by the IP header, and of the packet
+-- a refusal has its cause and its offset: by the IP header, and of the packet. For all but 19, which h alone decides; where the options begin
+-- stands for where their walk stopped
 abbrev pub header_refusal : ℕ → Cause → IpRead
-header_refusal h cause = BadHeader cause (cause_offset h cause)
+header_refusal h cause = BadHeader cause (cause_offset h (h + 20) cause)
 
 abbrev pub refusal : ℕ → Cause → PacketRead
-refusal h cause = Refused cause (cause_offset h cause)
+refusal h cause = Refused cause (cause_offset h (h + 20) cause)
 
 -- Each list: the first line that applies wins
 
@@ -109,13 +117,14 @@ ipv4_addresses = 12
 abbrev pub payload : List ℕ → ℕ → ℕ → ℕ
 payload p h t = t - h - data_offset p h
 
-abbrev pub segment_of : List ℕ → ℕ → ℕ → Segment
-segment_of p h t = record {
+abbrev pub segment_of : List ℕ → ℕ → ℕ → Offer → Segment
+segment_of p h t o = record {
   seq = record { 0 = sequence_number p h };
   ack = record { 0 = acknowledgment_number p h };
-  window = record { 0 = window p h };
+  window = window p h;
   flags = control (control_bits p h);
   octets = record { 0 = payload p h t + syn (control_bits p h) + fin (control_bits p h) };
+  offer = o;
 }
 
 -- 10, of the flags f and n payload octets
@@ -131,7 +140,19 @@ abbrev pub on_flags : ℕ → FlagCheck → PacketRead → PacketRead
 on_flags h (BadFlags cause) read = refusal h cause
 on_flags h Fine read = read
 
--- 9, 16 and 10, or the flow, by where the version has its addresses, and the segment
+-- 19, by what the walk of the options gave
+abbrev pub on_options : ℕ → OptionWalk → (Offer → PacketRead) → PacketRead
+on_options h (MalformedAt at) read = Refused MalformedOption (cause_offset h at MalformedOption)
+on_options h (Offers o) read = read o
+
+-- 10 and 19, or the flow, by where the version has its addresses, and the segment
+abbrev pub rows10and19 : Version → ℕ → List ℕ → ℕ → ℕ → PacketRead
+rows10and19 v addresses p h t =
+    on_flags h (row10 (control_bits p h) (payload p h t))
+    -- 19: malformed options on a SYN (document 02, item 8: "after 10")
+    (on_options h (option_rows p h) (λ o. Tcp (flow_at v p addresses h) (segment_of p h t o)))
+
+-- 9, 16, 10 and 19
 unfoldable pub tcp_rows : Version → ℕ → List ℕ → ℕ → ℕ → PacketRead
 tcp_rows v addresses p h t =
     let k : Flow = flow_at v p addresses h in
@@ -141,7 +162,7 @@ tcp_rows v addresses p h t =
     else when t - h <ᵇ data_offset p h then refusal h DataOffsetPastTotal
     -- 16: the whole sum, with the pseudo-header, isn't ffff (document 02, item 5: "after 9 and before 10")
     else when tcp_sum v k p h t ≠ᵇ 0xffff then refusal h TcpSum
-    else on_flags h (row10 (control_bits p h) (payload p h t)) (Tcp k (segment_of p h t))
+    else rows10and19 v addresses p h t
 
 -- The whole: what the IP header refuses, and then what TCP's does
 

@@ -22,9 +22,9 @@ pub record PointsInto (p : List ℕ) (cause : Cause) (offset : ℕ) : Type 0 whe
   pub given : (offset < length p) ⊎ (BytesMissing cause × (offset ≤ length p))
   pub below_120 : offset < 120
 
--- the answers of a refused packet, which are those that causes have: 5 to 10 and 16
+-- the answers of a refused packet, which are those that causes have: 5 to 10, 16 and 19
 abbrev pub PacketAnswer : ℕ → Type 0
-PacketAnswer n = ((5 ≤ n) × (n ≤ 10)) ⊎ (n ≡ 16)
+PacketAnswer n = ((5 ≤ n) × (n ≤ 10)) ⊎ ((n ≡ 16) ⊎ (n ≡ 19))
 
 -- a reader refuses a packet by a cause with this answer, and the packet broke at this offset, which points into it
 pub record BrokenAt (read : List ℕ → PacketRead) (p : List ℕ) (answer offset : ℕ) : Type 0 where

@@ -1,17 +1,19 @@
-// Reads a packet with one TCP segment: answers 5 to 10 and 16 of the documents with the byte offset at which it broke, or the flow and the
-// segment. The IP version decides rows 5 to 8 and where the addresses stand; rows 9, 16 and 10 are TCP's. There is a reader of IPv4.
+// Reads a packet with one TCP segment: answers 5 to 10, 16 and 19 of the documents with the byte offset at which it broke, or the flow and the
+// segment. The IP version decides rows 5 to 8 and where the addresses stand; rows 9, 16, 10 and 19 are TCP's. There is a reader of IPv4.
 ghost use Rattle.std.specs.Prelude.{◌≡◌, ◌+◌, ◌-◌, ◌^◌, ◌≤◌, ◌<◌, length};
 ghost use Rattle.address.specs.Address.{address_size, flow_at};
 ghost use Rattle.segment.specs.Flags.{control};
+ghost use Rattle.segment.specs.Offers.{no_offer};
 ghost use Rattle.packet.specs.Header.{data_offset};
+ghost use Rattle.packet.specs.Options.{option_length, well_formed_option, offer_at, first_made, walk_options, option_rows};
 ghost use Rattle.packet.specs.TcpSum.{tcp_sum, halves_added, address_added, fields_added};
-ghost use Rattle.packet.specs.Read.{rows6to8, ipv4_header, ipv4_addresses, segment_of, row10, tcp_rows, read_ipv4, Inside};
+ghost use Rattle.packet.specs.Read.{rows6to8, ipv4_header, ipv4_addresses, segment_of, row10, rows10and19, tcp_rows, read_ipv4, Inside};
 ghost use Rattle.packet.specs.Read.{cause_number, answer_and_offset};
 
 use address::{Address, Flow, Version, read_flow};
 use checksum::{carries_added, ones_sum};
 use octets::{read16, read32};
-use segment::Segment;
+use segment::{Offer, Segment};
 use serial::{OctetCount, SeqNum};
 
 // Why a packet is refused.
@@ -47,6 +49,8 @@ pub enum Cause {
     NoSynAckRst,
     // 10: SYN with payload.
     SynPayload,
+    // 19: malformed options on a SYN.
+    MalformedOption,
 }
 
 // What an IP header says: why and at which byte the packet is refused, or where TCP's header begins and where the packet ends.
@@ -70,6 +74,13 @@ enum FlagCheck {
     BadFlags(Cause),
 }
 
+// Where the first malformed option stands, or what the options offer.
+#[derive(Drop)]
+enum OptionWalk {
+    MalformedAt(usize),
+    Offers(Offer),
+}
+
 impl Cause {
     // The answer that the documents number.
     pub fn number(self) -> u32
@@ -91,6 +102,7 @@ impl Cause {
             Cause::SynFinRst => 10,
             Cause::NoSynAckRst => 10,
             Cause::SynPayload => 10,
+            Cause::MalformedOption => 19,
         }
     }
 }
@@ -124,23 +136,107 @@ fn control_bits(flags: u8) -> u8
     flags % 2 + 2 * (flags / 2 % 2) + 4 * (flags / 4 % 2) + 16 * (flags / 16 % 2)
 }
 
-fn read_segment(s: &[u8], h: usize, t: usize) -> Segment
+// What a segment says without the option of window scaling.
+fn no_offer() -> Offer
+    ensures { result ≡ no_offer }
+{
+    Offer {
+        made: false,
+        shift: 0,
+    }
+}
+
+// Whether the option at an offset, of a kind with a length, has one of at least 2 inside the header that ends at end.
+fn well_formed(s: &[u8], at: usize, end: usize) -> bool
+    requires { (at < end) × (end ≤ length s.now) }
+    ensures { result ≡ well_formed_option s.now at end }
+{
+    if end <= at + 1 {
+        return false;
+    }
+    let octets = s[at + 1] as usize;
+    if octets < 2 {
+        return false;
+    }
+    at + octets <= end
+}
+
+// What a well formed option offers: window scale is kind 3 of length 3.
+fn offer_at(s: &[u8], at: usize) -> Offer
+    requires { (at + 2 ≤ length s.now) × (at + option_length s.now at ≤ length s.now) }
+    ensures { result ≡ offer_at s.now at }
+{
+    if s[at] != 3 {
+        return no_offer();
+    }
+    if s[at + 1] != 3 {
+        return no_offer();
+    }
+    Offer {
+        made: true,
+        shift: s[at + 2],
+    }
+}
+
+// The first of two offers counts.
+fn first_made(found: Offer, later: Offer) -> Offer
+    ensures { result ≡ first_made found later }
+{
+    if found.made { found } else { later }
+}
+
+// The options of the TCP header at h, walked to its end also behind an offer.
+fn walk_options(s: &[u8], h: usize) -> OptionWalk
+    requires { (h + 20 ≤ length s.now) × (h + data_offset s.now h ≤ length s.now) }
+    ensures { result ≡ walk_options s.now h }
+{
+    let end = h + s[h + 12] as usize / 16 % 16 * 4;
+    let mut at = h + 20;
+    let mut found = no_offer();
+    while at < end {
+        match s[at] {
+            0 => return OptionWalk::Offers(found),
+            1 => at += 1,
+            _ => {
+                if !well_formed(s, at, end) {
+                    return OptionWalk::MalformedAt(at);
+                }
+                found = first_made(found, offer_at(s, at));
+                at += s[at + 1] as usize;
+            }
+        }
+    }
+    OptionWalk::Offers(found)
+}
+
+// Row 19: options are walked on SYN only.
+fn read_options(s: &[u8], h: usize) -> OptionWalk
+    requires { (h + 20 ≤ length s.now) × (h + data_offset s.now h ≤ length s.now) }
+    ensures { result ≡ option_rows s.now h }
+{
+    match s[h + 13] / 2 % 2 {
+        0 => OptionWalk::Offers(no_offer()),
+        _ => walk_options(s, h),
+    }
+}
+
+fn read_segment(s: &[u8], h: usize, t: usize, offer: Offer) -> Segment
     requires { (h + 20 ≤ t) × (t ≤ length s.now) × (t - h < 2 ^ 16) × (h + data_offset s.now h ≤ t) }
-    ensures { result ≡ segment_of s.now h t }
+    ensures { result ≡ segment_of s.now h t offer }
 {
     let flags = s[h + 13];
-    let data_offset = s[h + 12] as usize / 16 * 4;
+    let data_offset = s[h + 12] as usize / 16 % 16 * 4;
     let payload = (t - h - data_offset) as u32;
     let syn = (flags / 2 % 2) as u32;
     let fin = (flags % 2) as u32;
     let octets = payload + syn + fin;
-    let window = read16(s, h + 14) as u32;
     Segment {
         seq: SeqNum(read32(s, h + 4)),
         ack: SeqNum(read32(s, h + 8)),
-        window: OctetCount(window),
+        window: read16(s, h + 14),
         flags: control_bits(flags),
         octets: OctetCount(octets),
+        offer,
     }
 }
 
@@ -178,18 +274,43 @@ fn tcp_sum(version: Version, addresses: usize, s: &[u8], h: usize, t: usize) -> 
     carries_added(fields + segment)
 }
 
-// Rows 9, 16 and 10, for the TCP header at h in a packet that ends at t, by where its IP version has the addresses.
+// Rows 10 and 19, for a segment from h to t that rows 9 and 16 let pass. A function of its own: in one with rows 9 and 16 the compiler leaves
+// `read_segment` a call.
+fn read_summed(version: Version, addresses: usize, s: &[u8], h: usize, t: usize) -> PacketRead
+    requires { (addresses + address_size version + address_size version ≤ h) × (h + 20 ≤ t) × (t ≤ length s.now) × (t - h < 2 ^ 16)
+        × (h + data_offset s.now h ≤ t) }
+    ensures { result ≡ rows10and19 version addresses s.now h t }
+{
+    let data_offset_at = h + 12;
+    let flags_at = h + 13;
+    let data_offset = s[data_offset_at] as usize / 16 % 16 * 4;
+    let check = check_flags(s[flags_at], t - h - data_offset);
+    match check {
+        FlagCheck::BadFlags(cause) => PacketRead::Refused(cause, flags_at),
+        FlagCheck::Fine => {
+            let options = read_options(s, h);
+            match options {
+                OptionWalk::MalformedAt(at) => PacketRead::Refused(Cause::MalformedOption, at),
+                OptionWalk::Offers(offer) => PacketRead::Tcp(
+                    read_flow(version, s, addresses, h),
+                    read_segment(s, h, t, offer),
+                ),
+            }
+        }
+    }
+}
+
+// Rows 9, 16, 10 and 19, for the TCP header at h in a packet that ends at t, by where its IP version has the addresses.
 fn read_tcp(version: Version, addresses: usize, s: &[u8], h: usize, t: usize) -> PacketRead
     requires { (addresses + address_size version + address_size version ≤ h) × (h ≤ t) × (t ≤ length s.now) × (t - h < 2 ^ 16) }
     ensures { result ≡ tcp_rows version addresses s.now h t }
 {
     let data_offset_at = h + 12;
-    let flags_at = h + 13;
     let checksum_at = h + 16;
     if t - h < 20 {
         return PacketRead::Refused(Cause::TcpShort, h);
     }
-    let data_offset = s[data_offset_at] as usize / 16 * 4;
+    let data_offset = s[data_offset_at] as usize / 16 % 16 * 4;
     if data_offset < 20 {
         return PacketRead::Refused(Cause::DataOffsetBelowFive, data_offset_at);
     }
@@ -199,14 +320,7 @@ fn read_tcp(version: Version, addresses: usize, s: &[u8], h: usize, t: usize) ->
     if tcp_sum(version, addresses, s, h, t) != 65535 {
         return PacketRead::Refused(Cause::TcpSum, checksum_at);
     }
-    let check = check_flags(s[flags_at], t - h - data_offset);
-    match check {
-        FlagCheck::BadFlags(cause) => PacketRead::Refused(cause, flags_at),
-        FlagCheck::Fine => PacketRead::Tcp(
-            read_flow(version, s, addresses, h),
-            read_segment(s, h, t),
-        ),
-    }
+    read_summed(version, addresses, s, h, t)
 }
 
 // Rows 6 to 8, for an IPv4 header of h bytes whose total length is t.

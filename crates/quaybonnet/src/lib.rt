@@ -9,7 +9,7 @@ use address::Version;
 
 // The answer and the place as one number.
 fn pack(answer: u32, place: usize) -> u32
-    requires { (answer ≤ 16) × (place ≤ 65535) }
+    requires { (answer ≤ 19) × (place ≤ 65535) }
     ensures { result ≡ answer * 65536 + place }
 {
     answer * 65536 + (place as u32)

@@ -1,4 +1,4 @@
--- Laws of a line's result: how it goes by the reader's answer, that it is never 23, that 5 to 10 and 16 show their offset, that its text is short, and
+-- Laws of a line's result: how it goes by the reader's answer, that it is never 23, that 5 to 10, 16 and 19 show their offset, that its text is short, and
 -- that a line cut at 4,112 bytes has it.
 use Rattle.std.proofs.Common.{◌≡◌, ℕ, ◌+◌, ◌<◌, ◌≤◌, List, length, take, drop, sym, refl, ap, ◌∙◌, ⊎_elim, arith, length-take, take_all, ltb-false, ltb-true}
 use Rattle.choice.proofs.Choice.{when-cases, when-=, when-=-not}
@@ -24,7 +24,7 @@ use Rattle.packet.proofs.Causes.{packet-answer-bounds}
 use Rattle.packet.proofs.Readable.{ipv4-reader}
 use Rattle.filter.specs.Call.{Outcome, ipv4_outcome, reply_of, table_after}
 use Rattle.filter.specs.declared.Reply.{Reply}
-use Rattle.filter.proofs.Within.{Placed, by-reader, by-other-row, broken-at, Within, outcome-within, reply-small}
+use Rattle.filter.proofs.Within.{Placed, by-reader, by-other-row, broken-at, answer≤, Within, outcome-within, reply-small}
 use Rattle.replay.specs.Feed.{Memory, memory, with_answer, with_used, with_result, with_line, with_total}
 use Rattle.replay.specs.Written.{line_room, result_room}
 use Rattle.replay.specs.declared.Progress.{Progress}
@@ -146,9 +146,9 @@ unfolding shown_text
 number_short t answer n small below =
     omega (arith, length-result_text answer (Number n), length-decimal_text≤ 1 answer small, length-decimal_text≤ 3 n below)
 
--- an answer of the filter is at most 16, an offset below 120, and a place below 512
+-- an answer of the filter is at most 19, an offset below 120, and a place below 512
 module _ (t packet : List ℕ) where
-  refusal-short : (n place : ℕ) → n ≤ 16 → Placed (read_ipv4 packet) n place → Short (of_call t (Blocked n place))
+  refusal-short : (n place : ℕ) → n ≤ 19 → Placed (read_ipv4 packet) n place → Short (of_call t (Blocked n place))
   unfolding shown_place
   refusal-short n place most (by-reader cause is numbered) =
       let shown = offset-number t packet n place cause is in
@@ -157,7 +157,7 @@ module _ (t packet : List ℕ) where
 
   call-short : (o : Outcome) → Within V4 t (read_ipv4 packet) o → Short (of_call t o)
   unfolding shown_place
-  call-short (Blocked n place) within = refusal-short n place within.1 within.2
+  call-short (Blocked n place) within = refusal-short n place (answer≤ within.1) within.2
   call-short (Passed p now e) within =
       rw (when-=-not Dash (Number p) (λ (none : p ≡ 65535). omega (arith, within.0))) (number_short t 0 p (omega arith) (omega (arith, within.0)))
 

@@ -39,7 +39,7 @@ pub record Result : Type 0 where
 abbrev pub room : ℕ
 room = 2048
 
--- the place, for 5 to 10 and 16 the offset at which the packet broke (document 02, items 2 and 5); `-` for 65,535
+-- the place, for 5 to 10, 16 and 19 the offset at which the packet broke (document 02, items 2, 5 and 8); `-` for 65,535
 abbrev pub of_call : List ℕ → Outcome → Result
 of_call t o = record { answer = (reply_of o).answer; shown = shown_place (reply_of o).place; table = table_after V4 t o }
 
@@ -53,11 +53,11 @@ of_read (Frame side clock n) line t = of_call t (ipv4_outcome side clock t (line
 unfoldable pub result_of : List ℕ → List ℕ → Result
 result_of line t = of_read (read_line line room) line t
 
--- no line is answered 23: one of at most 4,111 characters has at most 2,048 packet bytes, and the filter's answers are at most 16
+-- no line is answered 23: one of at most 4,111 characters has at most 2,048 packet bytes, and the filter's answers are at most 19
 abbrev pub Never23 : Type 0
 Never23 = (line t : List ℕ) → (result_of line t).answer ≢ 23
 
--- after 5 to 10 and 16 the offset is shown at which the packet broke, never `-`
+-- after 5 to 10, 16 and 19 the offset is shown at which the packet broke, never `-`
 abbrev pub ShowsOffset : List ℕ → Result → Type 0
 ShowsOffset packet s = PacketAnswer s.answer → (offset : ℕ) × BrokenAt read_ipv4 packet s.answer offset × (s.shown ≡ Number offset)
 

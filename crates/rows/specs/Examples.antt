@@ -22,7 +22,7 @@ abbrev stranger : Flow
 stranger = between (endpoint (dotted 10 0 0 3) 1024) (endpoint (dotted 10 0 0 2) 80)
 
 abbrev connection : (side stage deadline : ℕ) (opener answerer : End) → Connection
-connection side stage deadline opener answerer = record { stage = stage; side = side; fins = 0; deadline = deadline; ends = opener ∷ answerer ∷ [] }
+connection side stage deadline opener answerer = record { stage = stage; side = side; fins = 0; deadline = deadline; ends = opener ∷ answerer ∷ []; shifts = 0 ∷ 0 ∷ []; offers = 0 }
 
 -- document 01's example after its first packet; and with the numbers of its state K, in stage 3, opened on a side
 abbrev unanswered : (deadline : ℕ) → Connection

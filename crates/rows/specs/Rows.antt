@@ -46,7 +46,7 @@ is_opening side g = (side =ᵇ 0) && (g.flags =ᵇ SYN)
 abbrev pub other_side : ℕ → ℕ
 other_side side = 1 - side
 
--- "Every other answer gives place 65,535": every one but a pass and, by document 02, items 2 and 5, 5 to 10 and 16
+-- "Every other answer gives place 65,535": every one but a pass and, by document 02, items 2, 5 and 8, 5 to 10, 16 and 19
 abbrev pub nowhere : ℕ
 nowhere = 65535
 

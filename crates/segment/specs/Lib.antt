@@ -1,2 +1,3 @@
 pub mod Flags
+pub mod Offers
 pub mod Readable

@@ -28,8 +28,7 @@ NearestIs =
     (E s X : ℕ) → 2 ^ 31 ≤ E → s < 2 ^ 32 →
     (X ≡ nearest E s) ↔ ((wrap X ≡ s) × (E ≤ X + 2 ^ 31) × (X < E + 2 ^ 31))
 
--- the largest window and acknowledgement range that the laws allow for: 65,535 and 66,000 under RFC 7323's largest shift, 14. No
--- answer uses more than the unscaled ones today
+-- the largest window and the largest acknowledgement range: 65,535 and 66,000 under RFC 7323's largest shift, 14 (document 02, item 8)
 abbrev pub largest_window : ℕ
 largest_window = 65535 * 2 ^ 14
 

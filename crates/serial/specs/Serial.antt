@@ -1,5 +1,5 @@
 -- What the operations on sequence numbers and octet counts give.
-use Rattle.std.specs.Prelude.{ℕ, ◌+◌, ◌^◌, max, Bool, ◌&&◌}
+use Rattle.std.specs.Prelude.{ℕ, ◌+◌, ◌*◌, ◌^◌, max, Bool, ◌&&◌}
 use Rattle.choice.specs.Choice.{◌≤ᵇ◌, ◌=ᵇ◌}
 use Rattle.serial.specs.Ring.{wrap, ring_plus, ring_minus, nearest}
 use Rattle.serial.specs.declared.SeqNum.{SeqNum}
@@ -33,6 +33,10 @@ further base a b = seq_at (max (nearest (base.0 + 2 ^ 32) a.0) (nearest (base.0 
 -- the larger count
 abbrev pub larger : OctetCount → OctetCount → OctetCount
 larger m n = record { 0 = max m.0 n.0 }
+
+-- a count times 2^shift
+abbrev pub scaled : OctetCount → ℕ → OctetCount
+scaled n shift = record { 0 = n.0 * 2 ^ shift }
 
 -- one and the same count
 abbrev pub same_count : OctetCount → OctetCount → Bool

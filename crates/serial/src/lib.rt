@@ -1,8 +1,8 @@
 // Sequence numbers and octet counts, kept apart: place minus place is a count, place plus count is a place, and nothing
 // adds two places.
-ghost use Rattle.std.specs.Prelude.{◌≡◌, ◌+◌, ◌^◌};
+ghost use Rattle.std.specs.Prelude.{◌≡◌, ◌+◌, ◌^◌, ◌<◌, ◌≤◌};
 ghost use Rattle.serial.specs.Ring.{nearest};
-ghost use Rattle.serial.specs.Serial.{same_seq, seq_plus, seq_back, seq_minus, further, larger, same_count, one_to, at_most, within};
+ghost use Rattle.serial.specs.Serial.{same_seq, seq_plus, seq_back, seq_minus, further, larger, scaled, same_count, one_to, at_most, within};
 
 use std::num::{wrapping_add_u32, wrapping_sub_u32};
 
@@ -70,6 +70,14 @@ impl OctetCount {
             return other;
         }
         self
+    }
+
+    // 2^shift times this count, of 17 bits at most: a 16-bit window, or the unscaled range.
+    pub fn scaled(self, shift: u8) -> OctetCount
+        requires { (self.0 < 2 ^ 17) × (shift ≤ 14) }
+        ensures { result ≡ scaled self shift }
+    {
+        OctetCount(self.0 << shift)
     }
 
     // Whether this is that count.

@@ -1,22 +1,22 @@
 // The table of connections in lent bytes: its clock, whether it is sound, the search, and the place of an opening (document 01,
-// "The table").
+// "The table", and document 02, item 8).
 ghost use Rattle.std.specs.Prelude.{◌≡◌, ◌+◌, ◌-◌, ◌*◌, ◌^◌, ◌≤◌, ◌<◌, length};
 ghost use Rattle.octets.specs.BigEndian.{octets_of};
 ghost use Rattle.octets.specs.Overwrite.{overwrite};
 ghost use Rattle.address.specs.Flows.{same_flow, reversed};
-ghost use Rattle.connection.specs.Sound.{sound_end, sound_unanswered};
+ghost use Rattle.connection.specs.Sound.{sound_end};
 ghost use Rattle.rows.specs.Rows.{from_opener, from_answerer, live_match, vacant, search, lowest_vacant};
 ghost use Rattle.rows.specs.Connections.{connections};
-ghost use Rattle.entry.specs.Layout.{header_size, rest_size, entry_size, place_at, entry_at};
+ghost use Rattle.entry.specs.Layout.{header_size, words_size, rest_size, entry_size, place_at, entry_at};
 ghost use Rattle.entry.specs.Viewed.{viewed};
 ghost use Rattle.table.specs.Table.{clock_at, header_clock, version_byte, sound_header, sound_table, view_of};
-ghost use Rattle.table.specs.Words.{TestsZeros, sound_word, sound_numbers, sound_entry};
+ghost use Rattle.table.specs.Words.{TestsZeros, sound_word, sound_scaling_word, offers_at, sound_tail, sound_numbers, sound_stage, sound_entry};
 
 use address::{Flow, Version, flow_is, reversed};
 use connection::End;
 use entry::{
-    ANSWERER, OPENER, SIDE, addresses_at, entry_size, load_end, numbers_at, place_at, ports_at,
-    rest_at,
+    ANSWERER, OFFERS, OPENER, SIDE, WORDS, addresses_at, entry_size, load_end, numbers_at,
+    place_at, ports_at, scaling_at,
 };
 use octets::{little32, read64, write64};
 use rows::Found;
@@ -92,14 +92,25 @@ fn any_entry(version: Version, table: &[u8], at: usize) -> u64
     }
 }
 
-// The same of the zeros that end an entry.
-fn any_rest(version: Version, table: &[u8], at: usize) -> u64
-    requires { at + rest_size version ≤ length table.now }
-    ensures { TestsZeros table.now at (rest_size version) result }
+// The same of what stands behind an entry's numbers.
+fn any_tail(version: Version, table: &[u8], at: usize) -> u64
+    requires { at + 3 + rest_size version ≤ length table.now }
+    ensures { TestsZeros table.now at (3 + rest_size version) result }
 {
     match version {
         Version::V4 => any16(table, at),
         Version::V6 => either(any16(table, at), any8(table, at + 16)),
+    }
+}
+
+// The same of the whole words of zeros that end it.
+fn any_words(version: Version, table: &[u8], at: usize) -> u64
+    requires { at + words_size version ≤ length table.now }
+    ensures { TestsZeros table.now at (words_size version) result }
+{
+    match version {
+        Version::V4 => either(any4(table, at), any8(table, at + 4)),
+        Version::V6 => either(any4(table, at), any16(table, at + 4)),
     }
 }
 
@@ -278,17 +289,54 @@ fn sound_word(w: u32) -> bool
     }
 }
 
-// Win from 1 to 65,535, and edge at most 65,535 ahead of end.
+// Win from 1 to 65,535·2^14, and edge at most as far ahead of end.
 fn sound_end(end: End) -> bool
     ensures { result ≡ sound_end end }
 {
-    if !end.win.one_to(OctetCount(65_535)) {
+    if !end.win.one_to(OctetCount(1_073_725_440)) {
         return false;
     }
-    end.edge.minus(end.end).at_most(OctetCount(65_535))
+    end.edge.minus(end.end).at_most(OctetCount(1_073_725_440))
 }
 
-// Deadline, both records and the zeros that end the entry at an offset.
+// The four octets behind an entry's numbers as one word: opener's shift + 256·answerer's shift + 65,536·offers, a zero byte above them.
+// `offers` keeps that byte, so that one test asks for both. A shift is at most 14, and 0 where its end offered none; that both offered one
+// is the usual case and comes first.
+fn sound_scaling(w: u32) -> bool
+    ensures { result ≡ sound_scaling_word w }
+{
+    let offers = w / 256 / 256;
+    if offers == 3 {
+        if 14 < w % 256 {
+            return false;
+        }
+        return w / 256 % 256 <= 14;
+    }
+    if 3 < offers {
+        return false;
+    }
+    if 14 * (offers % 2) < w % 256 {
+        return false;
+    }
+    w / 256 % 256 <= 14 * (offers / 2)
+}
+
+// Shifts, offers and the zeros that end the entry at an offset. Without offers all of it is zeros, which is one test and comes first.
+fn sound_tail(version: Version, table: &[u8], at: usize) -> bool
+    requires { at + entry_size version ≤ length table.now }
+    ensures { result ≡ sound_tail version table.now at }
+{
+    let scaling = scaling_at(version, at);
+    if any_tail(version, table, scaling) == 0 {
+        return true;
+    }
+    if !sound_scaling(little32(table, scaling)) {
+        return false;
+    }
+    any_words(version, table, scaling + WORDS) == 0
+}
+
+// Deadline and both records of the entry at an offset.
 fn sound_numbers(
     version: Version,
     table: &[u8],
@@ -306,16 +354,24 @@ fn sound_numbers(
     if !sound_end(opener) {
         return false;
     }
-    if !sound_end(answerer) {
-        return false;
-    }
-    any_rest(version, table, rest_at(version, at)) == 0
+    sound_end(answerer)
 }
 
-// In stage 1 the opener's edge equals its end and the answerer has 0, 0, 1.
-fn sound_unanswered(opener: End, answerer: End) -> bool
-    ensures { result ≡ sound_unanswered 1 opener answerer }
+// Who offered a shift, by the entry at an offset.
+fn offers_at(version: Version, table: &[u8], at: usize) -> u8
+    requires { at + entry_size version ≤ length table.now }
+    ensures { result ≡ offers_at version table.now at }
 {
+    table[scaling_at(version, at) + OFFERS]
+}
+
+// In stage 1 the opener's edge equals its end and the answerer has 0, 0, 1 and made no offer.
+fn sound_unanswered(opener: End, answerer: End, offers: u8) -> bool
+    ensures { result ≡ sound_stage 1 offers opener answerer }
+{
+    if offers / 2 != 0 {
+        return false;
+    }
     if !opener.edge.is(opener.end) {
         return false;
     }
@@ -328,7 +384,26 @@ fn sound_unanswered(opener: End, answerer: End) -> bool
     answerer.win.is(OctetCount(1))
 }
 
-// The entry at an offset, by the header clock: free, or sound and in use.
+// What stage 1 asks of the entry at an offset; the others ask nothing more.
+fn sound_stage(
+    version: Version,
+    table: &[u8],
+    at: usize,
+    stage: u32,
+    opener: End,
+    answerer: End,
+) -> bool
+    requires { at + entry_size version ≤ length table.now }
+    ensures { result ≡ sound_stage stage (offers_at version table.now at) opener answerer }
+{
+    match stage {
+        1 => sound_unanswered(opener, answerer, offers_at(version, table, at)),
+        _ => true,
+    }
+}
+
+// The entry at an offset, by the header clock: free, or sound and in use. Both records are done with before what stands behind them is read,
+// so that the scan fits the machine's registers.
 fn sound_entry(version: Version, table: &[u8], clock: u64, at: usize) -> bool
     requires { (at + entry_size version ≤ length table.now) × (clock < 2 ^ 48) }
     ensures { result ≡ sound_entry version table.now clock at }
@@ -346,10 +421,10 @@ fn sound_entry(version: Version, table: &[u8], clock: u64, at: usize) -> bool
     if !sound_numbers(version, table, clock, at, opener, answerer) {
         return false;
     }
-    match word % 256 {
-        1 => sound_unanswered(opener, answerer),
-        _ => true,
+    if !sound_stage(version, table, at, word % 256, opener, answerer) {
+        return false;
     }
+    sound_tail(version, table, at)
 }
 
 // The header's last four octets as one word, lowest first: two of its zeros, the IP version's byte, a zero.

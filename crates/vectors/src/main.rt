@@ -9,7 +9,7 @@
 //   s                               sum the buffer, of at most 65,535 bytes
 // and p, r, w and s empty the buffer and print one of
 //   ANSWER OFFSET                   p, refused
-//   0 SOURCE DESTINATION SPORT DPORT SEQ ACK WINDOW FLAGS OCTETS
+//   0 SOURCE DESTINATION SPORT DPORT SEQ ACK WINDOW FLAGS OCTETS OFFERED SHIFT
 //   ANSWER SIDE CLOCK LENGTH OFFSET HEX
 //   ANSWER LENGTH TEXT
 //   SUM                             four hex digits
@@ -20,7 +20,7 @@ use address::Flow;
 use libc::STDOUT_FILENO;
 use packet::PacketRead;
 use script::{Chunk, Input, Line, Output};
-use segment::Segment;
+use segment::{Offer, Segment};
 
 // More than the longest packet.
 type Buffer = [u8; 66000];
@@ -119,6 +119,15 @@ fn put_hex(out: &mut Output, used: usize, bytes: &[u8]) -> usize
     n
 }
 
+// 1 where the option was there.
+fn offered(offer: Offer) -> u64 {
+    let made = offer.made;
+    match made {
+        true => 1,
+        false => 0,
+    }
+}
+
 fn put_segment(out: &mut Output, used: usize, flow: Flow, segment: Segment) -> usize
     requires { used ≤ 65536 }
     ensures { result ≤ 65536 }
@@ -132,9 +141,11 @@ fn put_segment(out: &mut Output, used: usize, flow: Flow, segment: Segment) -> u
         to.port as u64,
         segment.seq.0 as u64,
         segment.ack.0 as u64,
-        segment.window.0 as u64,
+        segment.window as u64,
         segment.flags as u64,
         segment.octets.0 as u64,
+        offered(segment.offer),
+        segment.offer.shift as u64,
     ];
     script::put_fields(out, used, 0, &fields)
 }

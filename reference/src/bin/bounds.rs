@@ -1,35 +1,38 @@
-//! Test vectors for a connection: the ranges, what a pass writes, the stages
-//! and the deadlines.
+//! Test vectors for a connection: the ranges, what a pass writes, the stages, the
+//! deadlines and scaled windows.
 //!
 //! The expected results were worked out by hand from document 01 and document
-//! 02, item 6; those of stage 6 that repeat from stage to stage were laid out by
-//! a script from the rule, not by this library. They stand in the tables as the
-//! lines that a run prints. The program checks that this library agrees with all
-//! of them, then prints the input script (argument `stdin`) or the expected
-//! output (argument `stdout`).
+//! 02, items 6 and 8; those of stage 6 that repeat from stage to stage and those
+//! of scaled windows were laid out by a script from the rule, not by this
+//! library. They stand in the tables as the lines that a run prints. The program
+//! checks that this library agrees with all of them, then prints the input script
+//! (argument `stdin`) or the expected output (argument `stdout`).
 //!
 //! The script, each line ended by a newline; fields are unsigned decimal
-//! numbers, separated by single spaces:
+//! numbers, separated by single spaces, and those in brackets are 0 where they
+//! are left out:
 //!
 //! - `# text`: echoed to the output unchanged.
-//! - `c STAGE SIDE FINS DEADLINE OEND OEDGE OWIN AEND AEDGE AWIN`: sets the
-//!   held connection. Prints nothing.
-//! - `o SIDE SEQ WINDOW CLOCK`: holds the connection that an opening SYN makes.
-//!   Prints its ten fields in the order of `c`.
-//! - `g SENDER FLAGS SEQ ACK WINDOW OCTETS CLOCK`: offers a segment; sender 0
-//!   is the opener. Prints 13, 14 or 15 alone, or 0 and the ten fields of the
-//!   new connection, which is held from then on.
+//! - `c STAGE SIDE FINS DEADLINE OEND OEDGE OWIN AEND AEDGE AWIN [OSHIFT ASHIFT
+//!   OFFERS]`: sets the held connection, with shifts up to 14 and offers up to 3.
+//!   Prints nothing.
+//! - `o SIDE SEQ WINDOW CLOCK [OFFERED SHIFT]`: holds the connection that an
+//!   opening SYN makes; offered is 1 if it offers the shift, up to 255. Prints its
+//!   thirteen fields in the order of `c`.
+//! - `g SENDER FLAGS SEQ ACK WINDOW OCTETS CLOCK [OFFERED SHIFT]`: offers a
+//!   segment; sender 0 is the opener. Prints 13, 14 or 15 alone, or 0 and the
+//!   thirteen fields of the new connection, which is held from then on.
 //!
 //! A line of a table is a line of the script, with ` = ` and the printed line
 //! where it prints one. Lines that start with `;` show the working; they and
 //! empty lines are in neither file.
 
-use reference::connection::{Connection, End, Segment};
+use reference::connection::{Connection, End, Segment, LARGEST_SHIFT};
 use reference::packet::{FIN, SYN};
 use std::io::{self, Write};
 use std::process::ExitCode;
 
-const TABLES: [&str; 9] = [
+const TABLES: [&str; 10] = [
     include_str!("bounds/example.txt"),
     include_str!("bounds/sequence.txt"),
     include_str!("bounds/acknowledgement.txt"),
@@ -39,13 +42,16 @@ const TABLES: [&str; 9] = [
     include_str!("bounds/stages.txt"),
     include_str!("bounds/deadlines.txt"),
     include_str!("bounds/resets.txt"),
+    include_str!("bounds/scaling.txt"),
 ];
 
 /// "SYN with FIN or RST; none of SYN, ACK, RST" are refused by row 10.
 const WELL_FORMED_FLAGS: [u8; 8] = [2, 4, 5, 16, 17, 18, 20, 21];
 /// What the longest packet holds beside two headers of 20 bytes.
 const LONGEST_PAYLOAD: u32 = 65_535 - 40;
+/// As the field has it, before a shift.
 const LARGEST_WINDOW: u32 = 65_535;
+const BOTH_OFFERS: u8 = 3;
 /// "clock is 2^48 ms or more" is refused by row 2.
 const CLOCK_LIMIT: u64 = 1 << 48;
 
@@ -107,20 +113,35 @@ fn command(line: &str) -> Option<Command> {
         return Some(Command::Label);
     }
     let fields = rest.split(' ').map(number).collect::<Option<Vec<u64>>>()?;
-    match (name, fields.as_slice()) {
-        ("c", fields) => Some(Command::Hold(connection(fields.try_into().ok()?)?)),
-        ("o", &[side, sequence, window, clock]) => Some(Command::Open {
-            side: narrow(side)?,
-            syn: segment([SYN.into(), sequence, 0, window, 1])?,
-            clock,
-        }),
-        ("g", &[sender @ (0 | 1), ref fields @ .., clock]) => Some(Command::Offer {
-            sender: narrow(sender)?,
-            segment: segment(fields.try_into().ok()?)?,
-            clock,
-        }),
+    match name {
+        "c" => Some(Command::Hold(connection(with_left_out(fields, 3)?)?)),
+        "o" => {
+            let [side, sequence, window, clock, offered, shift] = with_left_out(fields, 2)?;
+            let syn = segment([SYN.into(), sequence, 0, window, 1])?;
+            Some(Command::Open {
+                side: narrow(side)?,
+                syn: offering(syn, offered, shift)?,
+                clock,
+            })
+        }
+        "g" => {
+            let [sender, numbers @ .., clock, offered, shift] = with_left_out::<9>(fields, 2)?;
+            Some(Command::Offer {
+                sender: narrow(sender).filter(|&sender| sender <= 1)?,
+                segment: offering(segment(numbers)?, offered, shift)?,
+                clock,
+            })
+        }
         _ => None,
     }
+}
+
+/// The fields of a line; the last `optional` ones are 0 where they are left out.
+fn with_left_out<const N: usize>(mut fields: Vec<u64>, optional: usize) -> Option<[u64; N]> {
+    if (N - optional..N).contains(&fields.len()) {
+        fields.resize(N, 0);
+    }
+    fields.try_into().ok()
 }
 
 /// A decimal number without sign or leading zeros.
@@ -133,7 +154,7 @@ fn narrow<T: TryFrom<u64>>(number: u64) -> Option<T> {
     T::try_from(number).ok()
 }
 
-fn connection(fields: [u64; 10]) -> Option<Connection> {
+fn connection(fields: [u64; 13]) -> Option<Connection> {
     let end = |at: usize| {
         Some(End {
             end: narrow(fields[at])?,
@@ -141,13 +162,21 @@ fn connection(fields: [u64; 10]) -> Option<Connection> {
             win: narrow(fields[at + 2])?,
         })
     };
-    Some(Connection {
+    let connection = Connection {
         stage: narrow(fields[0])?,
         side: narrow(fields[1])?,
         fins: narrow(fields[2])?,
         deadline: fields[3],
         ends: [end(4)?, end(7)?],
-    })
+        shifts: [narrow(fields[10])?, narrow(fields[11])?],
+        offers: narrow(fields[12])?,
+    };
+    let in_range = connection
+        .shifts
+        .iter()
+        .all(|&shift| shift <= LARGEST_SHIFT)
+        && connection.offers <= BOTH_OFFERS;
+    in_range.then_some(connection)
 }
 
 fn segment(fields: [u64; 5]) -> Option<Segment> {
@@ -157,14 +186,26 @@ fn segment(fields: [u64; 5]) -> Option<Segment> {
         acknowledgement: narrow(fields[2])?,
         window: narrow(fields[3])?,
         octets: narrow(fields[4])?,
+        offer: None,
     })
 }
 
-/// The ten fields in the order of `c`.
+/// The segment with what it offers: nothing, and then the shift is 0, or a shift.
+fn offering(segment: Segment, offered: u64, shift: u64) -> Option<Segment> {
+    let offer = match (offered, shift) {
+        (0, 0) => None,
+        (1, _) => Some(narrow(shift)?),
+        _ => return None,
+    };
+    Some(Segment { offer, ..segment })
+}
+
+/// The thirteen fields in the order of `c`.
 fn fields(connection: &Connection) -> String {
     let [opener, answerer] = connection.ends;
+    let [opener_shift, answerer_shift] = connection.shifts;
     format!(
-        "{} {} {} {} {} {} {} {} {} {}",
+        "{} {} {} {} {} {} {} {} {} {} {opener_shift} {answerer_shift} {}",
         connection.stage,
         connection.side,
         connection.fins,
@@ -174,7 +215,8 @@ fn fields(connection: &Connection) -> String {
         opener.win,
         answerer.end,
         answerer.edge,
-        answerer.win
+        answerer.win,
+        connection.offers
     )
 }
 
@@ -235,7 +277,8 @@ impl Run {
     }
 }
 
-/// Row 10, and the octets that a packet with these flags can have.
+/// Row 10, the octets that a packet with these flags can have, and "Options are
+/// walked on SYN only".
 fn is_well_formed(segment: &Segment) -> bool {
     let counted = (segment.flags & (SYN | FIN)).count_ones();
     let longest = if segment.flags & SYN != 0 {
@@ -245,6 +288,7 @@ fn is_well_formed(segment: &Segment) -> bool {
     };
     WELL_FORMED_FLAGS.contains(&segment.flags)
         && segment.window <= LARGEST_WINDOW
+        && (segment.offer.is_none() || segment.flags & SYN != 0)
         && (counted..=counted + longest).contains(&segment.octets)
 }
 
@@ -342,6 +386,52 @@ mod tests {
                 }
             }
         }
+    }
+
+    /// Every value of the offers is held in some later stage, and passed from by
+    /// either end, with shifts from 0 to 14.
+    #[test]
+    fn every_offer_is_held() {
+        let mut passed = HashSet::new();
+        let mut run = Run::default();
+        for step in steps() {
+            let printed = run.line(step.line);
+            if let Some(Command::Offer { sender, .. }) = command(step.line) {
+                let is_pass = printed.is_some_and(|printed| printed.starts_with("0 "));
+                if is_pass && run.held.stage > 1 {
+                    passed.insert((run.held.offers, sender, run.held.shifts[sender]));
+                }
+            }
+        }
+        for sender in 0..=1 {
+            for offers in [0, 2 - sender as u8] {
+                assert!(passed.contains(&(offers, sender, 0)), "{offers} {sender}");
+            }
+            assert!(passed.contains(&(1 << sender, sender, 7)), "{sender}");
+            for shift in [0, 1, 3, 7, 14] {
+                assert!(passed.contains(&(3, sender, shift)), "{sender} {shift}");
+            }
+        }
+    }
+
+    #[test]
+    fn left_out_fields_are_0() {
+        let held = |line: &str| {
+            let mut run = Run::default();
+            run.line(line);
+            run.held
+        };
+        let whole = "c 3 0 0 9 1000 1100 50 5000 5200 70";
+        assert_eq!(held(whole), held(&format!("{whole} 0 0 0")));
+        assert_eq!(held("o 0 100 1000 0"), held("o 0 100 1000 0 0 0"));
+        for wrong in [" 15 0 1", " 0 15 2", " 0 0 4", " 0 0 0 0"] {
+            assert!(command(&format!("{whole}{wrong}")).is_none(), "{wrong}");
+        }
+        for wrong in ["o 0 100 1000", "o 0 100 1000 0 2 0", "o 0 100 1000 0 0 7"] {
+            assert!(command(wrong).is_none(), "{wrong}");
+        }
+        assert!(command("g 2 16 1 1 1 1 1").is_none());
+        assert!(command("g 1 16 1 1 1 1 1 1 256").is_none());
     }
 
     /// From stage 2 on every reset passes with every value of the FIN bits, and

@@ -4,15 +4,15 @@
 //! - `traffic expect SEED COUNT`: the program's output, by this library.
 //! - `traffic histogram SEED COUNT`: how often each answer comes, how often a
 //!   pass leaves its entry in each stage (0: freed), how many connections open
-//!   and come to stage 5, what resets meet and what comes after them, and which
-//!   honest arrivals were overtaken.
+//!   and come to stage 5, what resets meet and what comes after them, which honest
+//!   arrivals were overtaken, and what options and scaled windows do.
 //!
 //! With an odd seed the last line has no newline.
 
 use reference::table;
 use reference::trace::{read_line, LONGEST_PACKET};
 use reference::trace_run::TraceRun;
-use reference::traffic::{lines, Made, OvertakenCounts, ResetCounts};
+use reference::traffic::{lines, Made, ResetCounts, ScalingCounts};
 use std::io::{self, BufWriter, Write};
 use std::process::ExitCode;
 
@@ -44,6 +44,7 @@ fn print_histogram(seed: u64, count: usize, output: &mut impl Write) -> io::Resu
     let mut closed = 0;
     let mut opened = 0;
     let mut resets = ResetCounts::default();
+    let mut scaling = ScalingCounts::default();
     let mut packet = [0; LONGEST_PACKET];
     let mut lines = lines(seed, count);
     while let Some(line) = lines.next() {
@@ -52,14 +53,16 @@ fn print_histogram(seed: u64, count: usize, output: &mut impl Write) -> io::Resu
         answers[given.answer as usize] += 1;
         let read = read_line(&line, &mut packet);
         if read.answer == 0 {
-            resets.count(&Made {
+            let made = Made {
                 before: &before,
                 side: read.side,
                 clock: read.clock,
                 packet: &packet[..read.length],
                 answer: given.answer,
                 after: run.table(),
-            });
+            };
+            resets.count(&made);
+            scaling.count(&made);
         }
         let Some(place) = given.number.filter(|_| given.answer == 0) else {
             continue;
@@ -83,11 +86,12 @@ fn print_histogram(seed: u64, count: usize, output: &mut impl Write) -> io::Resu
     writeln!(output, "connections opened: {opened}")?;
     writeln!(output, "connections come to stage 5: {closed}")?;
     print_resets(&resets, output)?;
-    print_overtaken(lines.overtaken(), output)
+    print_named(&lines.overtaken().named(), output)?;
+    print_named(&scaling.named(), output)
 }
 
-fn print_overtaken(counts: &OvertakenCounts, output: &mut impl Write) -> io::Result<()> {
-    for (name, counts) in counts.named() {
+fn print_named(named: &[(&str, &[u64])], output: &mut impl Write) -> io::Result<()> {
+    for (name, counts) in named {
         writeln!(output, "{name}: {counts:?}")?;
     }
     Ok(())

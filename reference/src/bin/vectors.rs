@@ -2,10 +2,10 @@
 //! ones' complement sum.
 //!
 //! The expected results were worked out by hand from document 01, document 02,
-//! items 2 and 5, and RFC 1071 and RFC 9293 and stand in the tables as the lines
-//! that a run prints. The program checks that this library agrees with all of
-//! them, then prints the input script (argument `stdin`) or the expected output
-//! (argument `stdout`).
+//! items 2, 5 and 8, and RFC 1071, RFC 7323 and RFC 9293 and stand in the tables
+//! as the lines that a run prints. The program checks that this library agrees
+//! with all of them, then prints the input script (argument `stdin`) or the
+//! expected output (argument `stdout`).
 //!
 //! The script, each line ended by a newline; a buffer starts empty:
 //!
@@ -13,9 +13,10 @@
 //! - `b HEX`: appends bytes, at most 2,000, to the buffer.
 //! - `f BB NNNNN`: appends that many copies of the byte `BB`, in decimal.
 //! - `p`: reads the buffer as a packet. Prints `ANSWER OFFSET` for a refused
-//!   one, answer 5 to 10 or 16 and where it broke, else
-//!   `0 SOURCE DESTINATION SPORT DPORT SEQ ACK WINDOW FLAGS OCTETS`, all in
-//!   decimal.
+//!   one, answer 5 to 10, 16 or 19 and where it broke, else
+//!   `0 SOURCE DESTINATION SPORT DPORT SEQ ACK WINDOW FLAGS OCTETS OFFERED SHIFT`,
+//!   all in decimal: offered is 1 if it is a SYN that offers a shift, the shift
+//!   what the option's byte has, 0 if none is offered.
 //! - `r NNNNN`: reads the buffer as a trace line, with an output of that many
 //!   bytes, all 2e before. Prints `ANSWER SIDE CLOCK LENGTH OFFSET OUT`, `OUT`
 //!   being the whole output in hex.
@@ -131,7 +132,7 @@ fn run_packet(buffer: &[u8]) -> String {
     match packet::read(buffer) {
         Err(refusal) => format!("{} {}", refusal.answer, refusal.offset),
         Ok(segment) => format!(
-            "0 {} {} {} {} {} {} {} {} {}",
+            "0 {} {} {} {} {} {} {} {} {} {} {}",
             segment.source,
             segment.destination,
             segment.source_port,
@@ -140,7 +141,9 @@ fn run_packet(buffer: &[u8]) -> String {
             segment.acknowledgement,
             segment.window,
             segment.flags,
-            segment.octets
+            segment.octets,
+            u8::from(segment.offer.is_some()),
+            segment.offer.unwrap_or(0)
         ),
     }
 }
@@ -238,7 +241,8 @@ mod tests {
 
     /// Every place where a packet can break is among the expected ones: "with h
     /// the IP header length, 9: h if under 20 bytes follow, else h + 12; 10:
-    /// h + 13", and "16 [..] offset h + 16".
+    /// h + 13", "16 [..] offset h + 16", and "19 [..] offset of the bad option",
+    /// from h + 20 to h + 59.
     #[test]
     fn every_offset_is_expected() {
         let vectors = packets::vectors();
@@ -251,6 +255,11 @@ mod tests {
             assert!(has(format!("9 {}", h + 12)), "{h}");
             assert!(has(format!("16 {}", h + 16)), "{h}");
             assert!(has(format!("10 {}", h + 13)), "{h}");
+            assert!(has(format!("19 {}", h + 20)), "{h}");
+            assert!(has(format!("19 {}", h + 59)), "{h}");
+        }
+        for at in 0..40 {
+            assert!(has(format!("19 {}", 40 + at)), "{at}");
         }
     }
 

@@ -5,6 +5,7 @@ use crate::packet::{FIN, RST};
 use crate::table::ENTRY;
 
 mod overtaken;
+mod scaling;
 
 const OPENER_ADDRESS: u32 = 0x0a00_0001;
 const ANSWERER_ADDRESS: u32 = 0x0a00_0002;
@@ -46,6 +47,8 @@ struct Draft {
     payload: usize,
     acknowledgement: u32,
     window: u16,
+    /// Four bytes of options.
+    options: Option<[u8; 4]>,
 }
 
 fn draft(flags: u8, sequence: u32, payload: usize, acknowledgement: u32) -> Draft {
@@ -55,12 +58,23 @@ fn draft(flags: u8, sequence: u32, payload: usize, acknowledgement: u32) -> Draf
         payload,
         acknowledgement,
         window: 1000,
+        options: None,
     }
 }
 
 impl Draft {
     fn with_window(self, window: u16) -> Draft {
         Draft { window, ..self }
+    }
+
+    fn with_options(self, options: [u8; 4]) -> Draft {
+        let options = Some(options);
+        Draft { options, ..self }
+    }
+
+    /// Offers a shift: kind 1, then kind 3 of length 3.
+    fn offering(self, shift: u8) -> Draft {
+        self.with_options([1, 3, 3, shift])
     }
 
     fn opener_packet(&self) -> Vec<u8> {
@@ -74,7 +88,8 @@ impl Draft {
     }
 
     fn packet(&self, addresses: (u32, u32), ports: (u16, u16)) -> Vec<u8> {
-        let total = (40 + self.payload) as u16;
+        let options = self.options.as_ref().map_or(&[][..], |options| options);
+        let total = (40 + options.len() + self.payload) as u16;
         let mut packet = vec![0x45, 0];
         packet.extend(total.to_be_bytes());
         packet.extend([0, 0, 0, 0, 64, 6, 0, 0]);
@@ -85,8 +100,10 @@ impl Draft {
         packet.extend(ports.1.to_be_bytes());
         packet.extend(self.sequence.to_be_bytes());
         packet.extend(self.acknowledgement.to_be_bytes());
-        packet.extend([0x50, self.flags]);
+        packet.extend([0x50 + 4 * options.len() as u8, self.flags]);
         packet.extend(self.window.to_be_bytes());
+        packet.extend([0; 4]);
+        packet.extend(options);
         packet.resize(usize::from(total), 0);
         write_tcp_checksum(&mut packet);
         packet
@@ -97,8 +114,8 @@ fn fresh(places: usize) -> Vec<u8> {
     vec![0; ENTRY * (places + 1)]
 }
 
-/// The call; a refusal must change no byte, and only answers 5 to 10 and 16 have
-/// a place.
+/// The call; a refusal must change no byte, and only answers 5 to 10, 16 and 19
+/// have a place.
 fn call(side: u32, clock: u64, table: &mut [u8], packet: &[u8]) -> (u32, u32) {
     let before = table.to_vec();
     let (answer, place) = filter(side, clock, table, packet);
@@ -109,7 +126,7 @@ fn call(side: u32, clock: u64, table: &mut [u8], packet: &[u8]) -> (u32, u32) {
         assert_eq!(table::clock(table), clock.max(table::clock(&before)));
         assert!(table::is_sound(table));
     } else {
-        assert_eq!(place != NO_PLACE, matches!(answer, 5..=10 | 16));
+        assert_eq!(place != NO_PLACE, matches!(answer, 5..=10 | 16 | 19));
         assert_eq!(table, before);
     }
     (answer, place)
@@ -166,6 +183,8 @@ fn in_stage(stage: u8) -> Connection {
         fins: [0, 0, 0, 0, 1, 3, 2][usize::from(stage)],
         deadline: 1000,
         ends: [end(100, 100, 1), answerer],
+        shifts: [0; 2],
+        offers: 0,
     }
 }
 
@@ -437,13 +456,16 @@ fn every_clause_of_sound() {
     let records = [
         (end(9, 9, 0), 4),
         (end(9, 9, 1), 11),
-        (end(9, 9, 65_535), 11),
-        (end(9, 9, 65_536), 4),
+        (end(9, 9, 65_536), 11),
+        (end(9, 9, 1_073_725_440), 11),
+        (end(9, 9, 1_073_725_441), 4),
+        (end(9, 9, 1 << 31), 4),
         (end(9, 8, 1), 4),
-        (end(9, 65_544, 1), 11),
-        (end(9, 65_545, 1), 4),
-        (end(u32::MAX, 65_534, 1), 11),
-        (end(u32::MAX, 65_535, 1), 4),
+        (end(9, 65_545, 1), 11),
+        (end(9, 1_073_725_449, 1), 11),
+        (end(9, 1_073_725_450, 1), 4),
+        (end(u32::MAX, 1_073_725_439, 1), 11),
+        (end(u32::MAX, 1_073_725_440, 1), 4),
     ];
     for at in 0..2 {
         for (record, expected) in records {
@@ -459,6 +481,8 @@ fn every_clause_of_sound() {
         ([end(100, 100, 1), end(0, 1, 1)], 4),
         ([end(100, 100, 1), end(0, 0, 2)], 4),
         ([end(0, 0, 65_535), end(0, 0, 1)], 11),
+        ([end(0, 0, 1_073_725_440), end(0, 0, 1)], 11),
+        ([end(0, 0, 1_073_725_441), end(0, 0, 1)], 4),
     ];
     for (ends, expected) in syns {
         let connection = Connection {
@@ -467,8 +491,36 @@ fn every_clause_of_sound() {
         };
         check(connection, expected);
     }
-    // The rest of the header, and the zeros of an entry.
-    let zeros = (8..64).chain([128 + 3]).chain(128 + 48..128 + 64);
+    // Shifts and offers; in stage 1 the answerer's is not made yet.
+    let scalings = [
+        ([0, 0], 3, 11),
+        ([14, 14], 3, 11),
+        ([15, 0], 3, 4),
+        ([0, 15], 3, 4),
+        ([1, 0], 1, 11),
+        ([1, 0], 2, 4),
+        ([0, 1], 2, 11),
+        ([0, 1], 1, 4),
+        ([1, 1], 0, 4),
+        ([0, 0], 4, 4),
+        ([0, 0], 255, 4),
+    ];
+    for stage in 1..=6 {
+        for (shifts, offers, expected) in scalings {
+            let connection = Connection {
+                shifts,
+                offers,
+                ..in_stage(stage)
+            };
+            let answered = stage == 1 && offers > 1;
+            check(connection, if answered { 4 } else { expected });
+        }
+    }
+    // The rest of the header, and the zeros of an entry; a shift of one that made
+    // no offer is 0 too.
+    let zeros = (8..64)
+        .chain([128 + 3, 128 + 48, 128 + 49])
+        .chain(128 + 51..128 + 64);
     for at in zeros {
         let mut table = held(in_stage(3));
         table[at] = 1;

@@ -116,19 +116,23 @@ impl Calls {
 #[cfg(test)]
 mod tests {
     use super::*;
+    use crate::connection::LARGEST_WINDOW;
     use crate::filter::{filter, PASSED};
+    use crate::packet::{self, ACK};
     use crate::table;
     use crate::traffic::causes::Seen;
     use std::collections::BTreeSet;
 
     #[test]
     fn every_answer_occurs() {
-        let mut counts = [0; 17];
+        let mut counts = [0; 20];
         for mut call in calls(1, 8_000) {
             let (answer, _) = filter(call.side, call.clock, &mut call.table, &call.packet);
             counts[answer as usize] += 1;
         }
-        assert!(counts.iter().all(|&count| count >= 4), "{counts:?}");
+        for answer in (0..=16).chain([19]) {
+            assert!(counts[answer] >= 4, "{answer}: {counts:?}");
+        }
     }
 
     #[test]
@@ -137,7 +141,7 @@ mod tests {
         let mut empty = 0;
         for mut call in calls(1, 20_000) {
             let given = filter(call.side, call.clock, &mut call.table, &call.packet);
-            if matches!(given.0, 5..=10 | 16) {
+            if matches!(given.0, 5..=10 | 16 | 19) {
                 seen.refused(&call.packet, given);
                 empty += u32::from(call.packet.is_empty());
             }
@@ -171,9 +175,82 @@ mod tests {
         assert!(unsound.iter().all(|&count| count >= 10), "{unsound:?}");
     }
 
-    /// The overtaken arrivals of a world: first, again, and at the limits of item 7
-    /// and of both ranges.
-    fn overtaken(world: &World) -> [u64; 6] {
+    /// Sound tables with every kind of offers, at the largest shift, window and
+    /// distance; unsound ones in every way that item 8 of document 02 adds.
+    #[test]
+    fn tables_hold_scaling() {
+        let mut offers = [0; 4];
+        let mut largest = [0; 6];
+        let mut unsound = [0; 11];
+        for call in calls(1, 20_000) {
+            if !table::length_allowed(call.table.len()) {
+                continue;
+            }
+            let is_sound = table::is_sound(&call.table);
+            for (place, bytes) in call.table.chunks(table::ENTRY).skip(1).enumerate() {
+                let held = table::entry(&call.table, place).connection;
+                let [opener, answerer] = held.ends;
+                let window = LARGEST_WINDOW + u32::from(!is_sound);
+                let far = [opener, answerer].map(|end| end.edge.wrapping_sub(end.end) == window);
+                let wide = [opener, answerer].map(|end| end.win == window);
+                if is_sound {
+                    offers[usize::from(held.offers)] += u32::from(held.stage > 1);
+                    let shifts = held.shifts.map(|shift| shift == 14);
+                    let at = [shifts, far, wide].concat();
+                    largest = std::array::from_fn(|n| largest[n] + u32::from(at[n]));
+                } else if (1..=6).contains(&held.stage) {
+                    let at = [
+                        held.shifts[0] > 14,
+                        held.shifts[1] > 14,
+                        held.shifts[0] > 0 && held.offers & 1 == 0,
+                        held.shifts[1] > 0 && held.offers & 2 == 0,
+                        held.offers > 3,
+                        held.stage == 1 && held.offers & 2 != 0,
+                        bytes[51] != 0,
+                        far[0],
+                        far[1],
+                        wide[0],
+                        wide[1],
+                    ];
+                    unsound = std::array::from_fn(|n| unsound[n] + u32::from(at[n]));
+                }
+            }
+        }
+        assert!(offers.iter().all(|&count| count >= 1_000), "{offers:?}");
+        assert!(largest.iter().all(|&count| count >= 1_000), "{largest:?}");
+        assert!(unsound.iter().all(|&count| count >= 8), "{unsound:?}");
+    }
+
+    /// Calls that pass on an entry of each kind of offers, and those whose
+    /// acknowledgement only a shift lets pass.
+    #[test]
+    fn passes_with_every_kind_of_offers() {
+        let mut passed = [0; 4];
+        let mut only_scaled = 0;
+        for mut call in calls(1, 20_000) {
+            let before = call.table.clone();
+            let (answer, place) = filter(call.side, call.clock, &mut call.table, &call.packet);
+            if answer != PASSED {
+                continue;
+            }
+            let held = table::entry(&before, place as usize).connection;
+            passed[usize::from(held.offers)] += u32::from(held.stage > 1);
+            let Ok(segment) = packet::read(&call.packet) else {
+                panic!("{:x?}", call.packet);
+            };
+            let sender = usize::from(call.side != u32::from(held.side));
+            let other = held.ends[1 - sender].end;
+            let is_old = other.wrapping_sub(segment.acknowledgement) > 66_000;
+            let scaled = held.stage > 1 && held.is_live(table::clock(&call.table));
+            only_scaled += u32::from(scaled && is_old && segment.flags & ACK != 0);
+        }
+        assert!(passed.iter().all(|&count| count >= 200), "{passed:?}");
+        assert!(only_scaled >= 100, "{only_scaled}");
+    }
+
+    /// The overtaken arrivals of a world: first, again, at the limits of item 7 and
+    /// of both ranges, and at those that are scaled.
+    fn overtaken(world: &World) -> [u64; 8] {
         let counts = world.overtaken();
         [
             counts.first,
@@ -182,13 +259,15 @@ mod tests {
             counts.at_allowance.iter().sum(),
             counts.at_lowest.iter().sum(),
             counts.at_oldest.iter().sum(),
+            counts.at_scaled_allowance,
+            counts.at_scaled_oldest.iter().sum(),
         ]
     }
 
     /// In runs this short, and with packets longer than a line's.
     #[test]
     fn overtaken_arrivals() {
-        let mut sums = [0; 6];
+        let mut sums = [0; 8];
         let mut calls = calls(1, 100_000);
         while calls.next().is_some() {
             if calls.rest == 0 {
@@ -196,7 +275,7 @@ mod tests {
                 sums = std::array::from_fn(|at| sums[at] + counts[at]);
             }
         }
-        let least = [500, 500, 400, 300, 100, 20];
+        let least = [500, 500, 400, 300, 100, 20, 100, 10];
         let enough = sums.iter().zip(least).all(|(&sum, least)| sum > least);
         assert!(enough, "{sums:?}");
     }

@@ -34,6 +34,25 @@ fn applies(fault: Fault, packet: &[u8]) -> bool {
         Fault::SynRst => has(SYN) && has(RST),
         Fault::NoneOfThree => !has(SYN | ACK | RST),
         Fault::SynWithPayload => has(SYN) && data_offset() < segment().len(),
+        Fault::Options => has(SYN) && bad_option(&segment()[20..data_offset()]).is_some(),
+    }
+}
+
+/// Where the first malformed option starts: "kind 0 ends, kind 1 skips, others need
+/// a length of at least 2 inside the header". Each option is taken off the front.
+pub fn bad_option(options: &[u8]) -> Option<usize> {
+    let mut rest = options;
+    loop {
+        let bad = options.len() - rest.len();
+        rest = match rest {
+            [] | [0, ..] => return None,
+            [1, after @ ..] => after,
+            [_] | [_, 0 | 1, ..] => return Some(bad),
+            [_, length, ..] => match rest.split_at_checked(usize::from(*length)) {
+                Some((_, after)) => after,
+                None => return Some(bad),
+            },
+        };
     }
 }
 
@@ -53,7 +72,7 @@ fn header_length(packet: &[u8]) -> usize {
 }
 
 /// The answer and the place that the packet gets for the cause (document 02,
-/// items 2 and 5).
+/// items 2, 5 and 8).
 pub fn refusal(cause: Fault, packet: &[u8]) -> (u32, u32) {
     let h = || header_length(packet) as u32;
     match cause {
@@ -67,6 +86,12 @@ pub fn refusal(cause: Fault, packet: &[u8]) -> (u32, u32) {
         Fault::TcpSum => (16, h() + 16),
         Fault::SynFin | Fault::SynRst | Fault::NoneOfThree | Fault::SynWithPayload => {
             (10, h() + 13)
+        }
+        Fault::Options => {
+            let options = header_length(packet) + 20;
+            let end = header_length(packet) + 4 * usize::from(packet[options - 8] >> 4);
+            let bad = bad_option(&packet[options..end]).expect("a malformed option");
+            (19, (options + bad) as u32)
         }
     }
 }
@@ -87,14 +112,14 @@ impl Seen {
         self.counts[cause as usize][usize::from(long)] += 1;
     }
 
-    /// Every cause occurred so often, and those of answers 9, 16 and 10, whose
+    /// Every cause occurred so often, and those of answers 9, 16, 10 and 19, whose
     /// offset follows from the header's length, did with a longer header alone.
     pub fn check(&self, least: u32) {
         for cause in FAULTS {
             let [short, long] = self.counts[cause as usize];
-            let (answer, _) = refusal(cause, &[0x45]);
+            let before_9 = (cause as usize) < Fault::Under20Follow as usize;
             assert!(short + long >= least, "{cause:?}: {short}, {long}");
-            assert!(answer < 9 || long >= least, "{cause:?}: {short}, {long}");
+            assert!(before_9 || long >= least, "{cause:?}: {short}, {long}");
         }
     }
 }

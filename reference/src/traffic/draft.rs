@@ -1,6 +1,7 @@
 //! Writes packets, well formed or spoilt in one of the ways that answers 5 to
-//! 10 and 16 refuse.
+//! 10, 16 and 19 refuse.
 
+use super::options::Options;
 use super::random::Random;
 use super::tcp_sums::{spoil_tcp_sum, zero_tcp_checksum};
 use crate::checksum::{ones_complement_sum, write_tcp_checksum};
@@ -10,6 +11,8 @@ use crate::trace::LONGEST_PACKET;
 
 /// Flags that the filter does not look at: PSH, URG, ECE and CWR.
 const OTHER_FLAGS: u8 = 0xe8;
+/// Without options, either header has 20 bytes.
+const SHORTEST_HEADER: usize = 20;
 /// The most words of four bytes that either header can have.
 const MOST_WORDS: u64 = 15;
 /// Both headers at their longest.
@@ -25,11 +28,14 @@ pub struct Draft {
     pub window: u16,
     /// Payload octets, without SYN and FIN.
     pub payload: usize,
+    /// What a SYN carries; a segment without SYN has any bytes in their place.
+    pub options: Options,
 }
 
 impl Draft {
-    /// A well-formed packet. What the filter must skip or ignore is random:
-    /// options, payload, urgent pointer, bytes past total length.
+    /// A packet that is well formed, but for malformed options of a SYN. What the
+    /// filter must skip or ignore is random: other options, payload, urgent
+    /// pointer, bytes past total length.
     pub fn packet(&self, random: &mut Random) -> Vec<u8> {
         let ip_words = words(random);
         self.packet_with_header(ip_words, random)
@@ -47,11 +53,11 @@ impl Draft {
     }
 
     fn packet_with_header(&self, ip_words: usize, random: &mut Random) -> Vec<u8> {
-        let tcp_words = words(random);
-        let total = 4 * (ip_words + tcp_words) + self.payload;
+        let options = self.option_bytes(random);
+        let total = 4 * ip_words + SHORTEST_HEADER + options.len() + self.payload;
         let mut packet = Vec::with_capacity(total);
         self.write_ip_header(&mut packet, ip_words, total, random);
-        self.write_tcp_header(&mut packet, tcp_words, random);
+        self.write_tcp_header(&mut packet, &options, random);
         fill(&mut packet, total, random);
         write_ip_checksum(&mut packet, random);
         write_tcp_checksum(&mut packet);
@@ -67,6 +73,16 @@ impl Draft {
             fill(&mut packet, longest, random);
         }
         packet
+    }
+
+    /// "Options are walked on SYN only": any bytes are options elsewhere.
+    fn option_bytes(&self, random: &mut Random) -> Vec<u8> {
+        if self.flags & SYN != 0 {
+            return self.options.bytes();
+        }
+        let mut bytes = Vec::new();
+        fill(&mut bytes, 4 * words(random) - SHORTEST_HEADER, random);
+        bytes
     }
 
     fn write_ip_header(
@@ -92,8 +108,8 @@ impl Draft {
         fill(packet, 4 * words, random);
     }
 
-    fn write_tcp_header(&self, packet: &mut Vec<u8>, words: usize, random: &mut Random) {
-        let start = packet.len();
+    fn write_tcp_header(&self, packet: &mut Vec<u8>, options: &[u8], random: &mut Random) {
+        let words = (SHORTEST_HEADER + options.len()) / 4;
         packet.extend(self.names.opener_port.to_be_bytes());
         packet.extend(self.names.answerer_port.to_be_bytes());
         packet.extend(self.sequence.to_be_bytes());
@@ -105,7 +121,10 @@ impl Draft {
         }
         packet.extend([(words as u8) << 4 | reserved, self.flags | other_flags]);
         packet.extend(self.window.to_be_bytes());
-        fill(packet, start + 4 * words, random);
+        // Checksum and urgent pointer.
+        let options_start = packet.len() + 4;
+        fill(packet, options_start, random);
+        packet.extend(options);
     }
 }
 
@@ -140,8 +159,8 @@ pub fn write_ip_checksum(packet: &mut [u8], random: &mut Random) {
     packet[10..12].copy_from_slice(&checksum.to_be_bytes());
 }
 
-/// The causes of answers 5 to 10 and 16, row by row: "16 [..], after 9 and
-/// before 10".
+/// The causes of answers 5 to 10, 16 and 19, row by row: "16 [..], after 9 and
+/// before 10", "19 [..], after 10".
 #[derive(Clone, Copy, Debug, PartialEq, Eq)]
 pub enum Fault {
     Under20Bytes,
@@ -161,9 +180,10 @@ pub enum Fault {
     SynRst,
     NoneOfThree,
     SynWithPayload,
+    Options,
 }
 
-pub const FAULTS: [Fault; 17] = [
+pub const FAULTS: [Fault; 18] = [
     Fault::Under20Bytes,
     Fault::Version,
     Fault::HeaderUnder20,
@@ -181,6 +201,7 @@ pub const FAULTS: [Fault; 17] = [
     Fault::SynRst,
     Fault::NoneOfThree,
     Fault::SynWithPayload,
+    Fault::Options,
 ];
 
 /// Spoils a well-formed packet in one way, now and then in two, so that the
@@ -234,6 +255,7 @@ fn spoil_by(packet: &mut Vec<u8>, fault: Fault, random: &mut Random) {
             let follow = edge_or_below(19, random);
             write_total(packet, header as u64 + follow);
         }
+        Fault::Options => spoil_options(packet, header, random),
         _ => spoil_tcp(packet, header, total, fault, random),
     }
     write_ip_checksum(packet, random);
@@ -250,6 +272,23 @@ fn spoil_by(packet: &mut Vec<u8>, fault: Fault, random: &mut Random) {
         Fault::TcpSum => spoil_tcp_sum(packet, random),
         _ => {}
     }
+}
+
+/// Makes the segment a SYN, with ACK or without, that has nothing after malformed
+/// options.
+fn spoil_options(packet: &mut Vec<u8>, header: usize, random: &mut Random) {
+    let options = header + SHORTEST_HEADER;
+    if packet.len() < options {
+        return;
+    }
+    packet.truncate(options);
+    packet.extend(Options::malformed(random).bytes());
+    let words = (packet.len() - header) / 4;
+    packet[header + 12] = (words as u8) << 4 | packet[header + 12] & 0x0f;
+    let others = packet[header + 13] & OTHER_FLAGS;
+    packet[header + 13] = others | SYN | random.pick(&[0, ACK]);
+    let total = packet.len() as u64;
+    write_total(packet, total);
 }
 
 /// The faults of rows 9 and 10 that lie in the TCP header.
@@ -310,6 +349,7 @@ mod tests {
             acknowledgement: random.place(),
             window: random.window(),
             payload: random.between(1, 40) as usize,
+            options: Options::any(random),
         }
     }
 
@@ -330,6 +370,7 @@ mod tests {
                 window: draft.window,
                 flags: draft.flags,
                 octets: draft.payload as u32 + u32::from(draft.flags & FIN),
+                offer: None,
             };
             let packet = draft.packet(&mut random);
             assert_eq!(read(&packet), Ok(expected));
@@ -341,6 +382,33 @@ mod tests {
             }
         }
         assert!(zeros.iter().all(|&count| count > 20), "{zeros:?}");
+    }
+
+    /// A SYN reads back with what its options offer, if they are well formed.
+    #[test]
+    fn a_syn_reads_back() {
+        let mut random = Random::new(3);
+        for _ in 0..2_000 {
+            let draft = Draft {
+                flags: random.pick(&[SYN, SYN | ACK]),
+                payload: 0,
+                ..draft(&mut random)
+            };
+            let Options::WellFormed { offer, .. } = draft.options else {
+                panic!("{draft:?}");
+            };
+            let given = read(&draft.packet(&mut random));
+            assert_eq!(given.map(|segment| segment.offer), Ok(offer));
+            let malformed = Draft {
+                options: Options::malformed(&mut random),
+                ..draft
+            };
+            let packet = malformed.packet(&mut random);
+            let refused = read(&packet)
+                .err()
+                .map(|refusal| (refusal.answer, refusal.offset));
+            assert_eq!(refused, Some(refusal(Fault::Options, &packet)));
+        }
     }
 
     #[test]
@@ -368,7 +436,11 @@ mod tests {
                     Fault::DataOffsetPastTotal => {
                         cause.is_none_or(|cause| cause == fault || cause == Fault::TcpSum)
                     }
-                    Fault::SynFin | Fault::SynRst | Fault::NoneOfThree | Fault::SynWithPayload => {
+                    Fault::SynFin
+                    | Fault::SynRst
+                    | Fault::NoneOfThree
+                    | Fault::SynWithPayload
+                    | Fault::Options => {
                         unmended += u32::from(cause == Some(Fault::TcpSum));
                         cause == Some(fault) || cause == Some(Fault::TcpSum)
                     }
@@ -377,7 +449,7 @@ mod tests {
                 assert!(allowed, "{fault:?} {cause:?}");
             }
         }
-        // Of the 500 rounds' four causes of row 10.
-        assert!((250..600).contains(&unmended), "{unmended}");
+        // Of the 500 rounds' four causes of row 10 and the one of row 19.
+        assert!((300..700).contains(&unmended), "{unmended}");
     }
 }

@@ -1,11 +1,13 @@
 //! A connection between two ends that keep the rules of document 01, "Honest
 //! ends". "Places here are whole numbers". On their way to the filter segments
-//! overtake each other (document 02, item 7).
+//! overtake each other (document 02, item 7). Each end may offer a shift, and if
+//! both do, both reckon with scaled windows (item 8).
 
 use super::draft::Draft;
+use super::options::{self, Options};
 use super::random::Random;
-use super::way::{Reaching, Way};
-use crate::connection::{ANSWERER, OPENER};
+use super::way::{Reaching, Way, ALLOWANCE};
+use crate::connection::{ANSWERER, LARGEST_SHIFT, OPENER};
 use crate::packet::{ACK, FIN, SYN};
 use crate::table::Names;
 
@@ -20,6 +22,9 @@ pub struct Sending {
     pub payload: u64,
     pub acknowledgement: u64,
     pub window: u16,
+    /// How far the window is shifted: "If both SYN and SYN+ACK carried the option,
+    /// windows of segments without SYN are shifted by their sender's shift".
+    pub scale: u8,
     /// "the highest acknowledgement that sender had received" when it was sent
     /// (document 02, item 7); the SYN's end before the first.
     pub received: u64,
@@ -36,9 +41,17 @@ impl Sending {
         self.start + self.payload + u64::from((self.flags & (SYN | FIN)).count_ones())
     }
 
-    /// a + max(w, 1)
+    /// a + max(w, 1), the window in octets.
     fn edge(&self) -> u64 {
-        self.acknowledgement + u64::from(self.window.max(1))
+        let window = u64::from(self.window) << self.scale;
+        self.acknowledgement + window.max(1)
+    }
+
+    /// How much further one that overtakes it may acknowledge: "item 7's allowance:
+    /// 465·2^k, k being the acknowledging end's shift, 0 unless both offered". No
+    /// SYN is overtaken.
+    pub fn allowance(&self) -> u64 {
+        ALLOWANCE << self.scale
     }
 }
 
@@ -46,6 +59,11 @@ impl Sending {
 #[derive(Clone, Debug)]
 struct HonestEnd {
     syn: u64,
+    /// The shift that it offers, if it offers one.
+    offer: Option<u8>,
+    /// Those of its SYN: "honest options being well formed and the same on each
+    /// repeat".
+    options: Options,
     /// The window it offers most often.
     window: u16,
     /// It uses all of the other end's window and acknowledges little by little.
@@ -68,7 +86,7 @@ struct HonestEnd {
 }
 
 impl HonestEnd {
-    fn new(stretched: bool, random: &mut Random) -> HonestEnd {
+    fn new(offer: Option<u8>, stretched: bool, random: &mut Random) -> HonestEnd {
         let syn = (1 << 32) + u64::from(random.place());
         let window = if stretched {
             stretched_window(random)
@@ -77,6 +95,8 @@ impl HonestEnd {
         };
         HonestEnd {
             syn,
+            offer,
+            options: Options::offering(offer, random),
             window,
             stretched,
             opened: false,
@@ -120,10 +140,25 @@ impl HonestEnd {
         furthest.map_or(newest, |furthest| furthest.clamp(least, newest))
     }
 
+    /// SYN, or SYN+ACK. Its window is not scaled.
+    fn syn(&self, flags: u8, acknowledgement: u64) -> Sending {
+        Sending {
+            flags,
+            start: self.syn,
+            payload: 0,
+            acknowledgement,
+            window: self.window,
+            scale: 0,
+            received: self.acknowledged,
+            number: 0,
+        }
+    }
+
     /// A segment after the opening.
     fn later(
         &mut self,
         other_syn: u64,
+        scale: u8,
         closing: bool,
         longest: u64,
         random: &mut Random,
@@ -156,6 +191,7 @@ impl HonestEnd {
             payload,
             acknowledgement: self.acknowledgement(other_syn, random),
             window: self.window(random),
+            scale,
             received: self.acknowledged,
             number: 0,
         }
@@ -199,6 +235,18 @@ impl HonestEnd {
             self.acknowledged = self.acknowledged.max(segment.acknowledgement);
             self.limit = self.limit.max(segment.edge());
         }
+    }
+}
+
+/// What opener and answerer offer: mostly neither does, often both, now and then
+/// one alone.
+fn offers(random: &mut Random) -> [Option<u8>; 2] {
+    let [opener, answerer] = [(); 2].map(|()| Some(options::shift(random)));
+    match random.below(8) {
+        0 => [opener, None],
+        1 => [None, answerer],
+        2..=4 => [opener, answerer],
+        _ => [None, None],
     }
 }
 
@@ -246,12 +294,15 @@ pub struct Link {
 
 impl Link {
     pub fn new(names: Names, random: &mut Random) -> Link {
-        let stretched = random.once_in(4);
+        let offers = offers(random);
+        let scales = offers.iter().all(Option::is_some);
+        // What only scaling lets pass is far from what any window lets.
+        let stretched = random.once_in(if scales { 2 } else { 4 });
         let most = if stretched { 60 } else { 30 };
         let busy = random.between(2, most) as u32;
         Link {
             names,
-            ends: [(); 2].map(|()| HonestEnd::new(stretched, random)),
+            ends: offers.map(|offer| HonestEnd::new(offer, stretched, random)),
             flight: Vec::new(),
             place: None,
             sheltered: random.once_in(2),
@@ -316,6 +367,7 @@ impl Link {
 
     fn send(&mut self, end: usize, longest: u64, random: &mut Random) {
         let other_syn = self.ends[1 - end].syn;
+        let scale = self.scale(end);
         let closing = self.busy == 0;
         let sender = &mut self.ends[end];
         if sender.way.is_full() {
@@ -326,32 +378,26 @@ impl Link {
             return;
         }
         let sending = if sender.opened {
-            sender.later(other_syn, closing, longest, random)
+            sender.later(other_syn, scale, closing, longest, random)
         } else if end == OPENER {
-            Sending {
-                flags: SYN,
-                start: sender.syn,
-                payload: 0,
-                acknowledgement: 0,
-                window: sender.window,
-                received: sender.acknowledged,
-                number: 0,
-            }
+            sender.syn(SYN, 0)
         } else if sender.heard != 0 {
             sender.said = other_syn + 1;
-            Sending {
-                flags: SYN | ACK,
-                start: sender.syn,
-                payload: 0,
-                acknowledgement: other_syn + 1,
-                window: sender.window,
-                received: sender.acknowledged,
-                number: 0,
-            }
+            sender.syn(SYN | ACK, other_syn + 1)
         } else {
             return;
         };
         sender.way.send(sending);
+    }
+
+    /// By how much this end shifts its windows once both have offered; a later
+    /// segment is sent only after the other end's SYN was received.
+    fn scale(&self, end: usize) -> u8 {
+        match [OPENER, ANSWERER].map(|end| self.ends[end].offer) {
+            // "a shift above 14 counts as 14"
+            [Some(opener), Some(answerer)] => [opener, answerer][end].min(LARGEST_SHIFT),
+            _ => 0,
+        }
     }
 
     /// "past it, the only path, they may be lost, repeated and reordered"
@@ -391,6 +437,7 @@ impl Link {
             acknowledgement: sending.acknowledgement as u32,
             window: sending.window,
             payload: sending.payload as usize,
+            options: self.ends[sender].options,
         }
     }
 
@@ -421,13 +468,45 @@ mod tests {
             // "was sent while the highest acknowledgement that sender had received
             // was no further than the overtaken segment's start"
             assert!(overtaker.received <= sending.start);
-            // "and acknowledges at most 465 octets further than it"
-            assert!(overtaker.acknowledgement <= sending.acknowledgement + 465);
+            // "and acknowledges at most 465 octets further than it"; "item 7's
+            // allowance: 465·2^k"
+            let allowance = 465 << sending.scale;
+            assert!(overtaker.acknowledgement <= sending.acknowledgement + allowance);
+            assert_eq!(overtaker.scale, sending.scale);
             // Neither falls in sending order.
             assert!(overtaker.received >= sending.received);
             assert!(overtaker.acknowledgement >= sending.acknowledgement);
         }
         overtakers.len()
+    }
+
+    /// "windows of segments without SYN are shifted by their sender's shift; a
+    /// shift above 14 counts as 14", if both ends offered one.
+    #[test]
+    fn ends_scale_if_both_offered() {
+        let mut random = Random::new(2);
+        let mut counts = [0; 4];
+        for _ in 0..1_000 {
+            let mut link = Link::new(NAMES, &mut random);
+            let offers = [OPENER, ANSWERER].map(|end| link.ends[end].offer);
+            counts[usize::from(offers[0].is_some()) + 2 * usize::from(offers[1].is_some())] += 1;
+            while !link.is_given_up() {
+                let (end, reaching) = link.next_arrival(1_900, &mut random);
+                let sending = reaching.sending;
+                let scale = match offers {
+                    [Some(_), Some(_)] if !sending.has(SYN) => offers[end].map_or(0, |k| k.min(14)),
+                    _ => 0,
+                };
+                assert_eq!(sending.scale, scale);
+                let window = u64::from(sending.window) * (1 << scale);
+                assert_eq!(sending.edge(), sending.acknowledgement + window.max(1));
+                // The same options on each SYN.
+                let options = link.draft(end, &sending).options;
+                assert_eq!(options, link.ends[end].options);
+                link.passed(end, &sending);
+            }
+        }
+        assert!(counts.iter().all(|&count| count > 80), "{counts:?}");
     }
 
     #[test]

@@ -127,7 +127,7 @@ mod tests {
     use crate::trace::read_line;
     use crate::trace_run::{run, TraceRun};
     use crate::traffic::causes::Seen;
-    use crate::traffic::{Made, ResetCounts};
+    use crate::traffic::{Made, ResetCounts, ScalingCounts};
 
     #[test]
     fn one_seed_one_text() {
@@ -165,7 +165,7 @@ mod tests {
         for line in lines(1, 40_000) {
             counts[run.line(&line).answer as usize] += 1;
         }
-        for answer in (5..=16).chain([0, 21, 22]) {
+        for answer in (5..=16).chain([0, 19, 21, 22]) {
             assert!(counts[answer] >= 20, "{answer}: {counts:?}");
         }
     }
@@ -206,14 +206,50 @@ mod tests {
         assert_eq!(counts.returned[..3], [0; 3]);
     }
 
+    /// Connections of every kind of offers, what only scaling lets pass, both scaled
+    /// bounds, and malformed options in every stage.
+    #[test]
+    fn scaled_windows_and_options() {
+        let mut run = TraceRun::default();
+        let mut packet = [0; LONGEST_PACKET];
+        let mut counts = ScalingCounts::default();
+        for line in lines(1, 40_000) {
+            let before = run.table().to_vec();
+            let answer = run.line(&line).answer;
+            let read = read_line(&line, &mut packet);
+            if read.answer == 0 {
+                counts.count(&Made {
+                    before: &before,
+                    side: read.side,
+                    clock: read.clock,
+                    packet: &packet[..read.length],
+                    answer,
+                    after: run.table(),
+                });
+            }
+        }
+        let each: [(&[u64], u64); 7] = [
+            (&counts.answered, 60),
+            (&[counts.above_14], 150),
+            (counts.malformed.as_flattened(), 25),
+            (&counts.other_offer, 30),
+            (&counts.only_scaled, 200),
+            (&counts.at_edge, 100),
+            (&counts.at_oldest, 50),
+        ];
+        for (counts, least) in each {
+            assert!(counts.iter().all(|&count| count > least), "{each:?}");
+        }
+    }
+
     /// Arrivals that the world checks never to be blocked: of every kind that item
-    /// 7 of document 02 adds, and at both its limits.
+    /// 7 of document 02 adds, and at both its limits, scaled by item 8 and not.
     #[test]
     fn overtaken_arrivals() {
         let mut lines = lines(1, 100_000);
         lines.by_ref().for_each(drop);
         let counts = lines.overtaken();
-        let each: [(&[u64], u64); 8] = [
+        let each: [(&[u64], u64); 10] = [
             (&[counts.first, counts.again], 1_000),
             (&[counts.again_after_several], 500),
             (&counts.data_by_fin, 15),
@@ -223,6 +259,8 @@ mod tests {
             (&counts.at_allowance[1..], 80),
             (&counts.at_lowest, 10),
             (&counts.at_oldest, 12),
+            (&[counts.at_scaled_allowance], 400),
+            (&counts.at_scaled_oldest, 12),
         ];
         for (counts, least) in each {
             assert!(counts.iter().all(|&count| count > least), "{each:?}");
@@ -236,9 +274,9 @@ mod tests {
         let mut packet = [0; LONGEST_PACKET];
         for line in lines(1, 20_000) {
             let given = run.line(&line);
-            if matches!(given.answer, 5..=10 | 16) {
+            if matches!(given.answer, 5..=10 | 16 | 19) {
                 let length = read_line(&line, &mut packet).length;
-                let place = given.number.expect("answers 5 to 10 and 16 have a place");
+                let place = given.number.expect("such answers have a place");
                 seen.refused(&packet[..length], (given.answer, place));
             }
         }

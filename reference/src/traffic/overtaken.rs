@@ -1,20 +1,18 @@
 //! Counts the honest arrivals that were overtaken (document 02, item 7), and how
-//! near they are to what the filter refuses.
+//! near they are to what the filter refuses, with windows scaled (item 8) or not.
 
 use super::honest::Sending;
-use super::way::{Reaching, ALLOWANCE};
-use crate::connection::{Connection, End};
+use super::way::Reaching;
+use crate::connection::{Connection, OLDEST_ACKNOWLEDGEMENT};
 use crate::packet::FIN;
 use std::slice;
 
-/// "(T.end − a) mod 2^32 ≤ 66,000"
-const OLDEST_ACKNOWLEDGEMENT: u32 = 66_000;
 /// So many overtakers are several.
 const SEVERAL: u32 = 3;
 
-/// A count for each kind of largest window: up to 464, up to 4,999, up to 65,534
-/// and 65,535.
-pub type ByWindow = [u64; 4];
+/// A count for each kind of largest window: up to 464, up to 4,999, up to 65,534,
+/// 65,535, and those that only a shift gives.
+pub type ByWindow = [u64; 5];
 
 /// How often each of these came.
 #[derive(Debug, Default)]
@@ -31,12 +29,16 @@ pub struct OvertakenCounts {
     /// "no further than the overtaken segment's start": equally far, by the other
     /// end's window.
     pub at_start: ByWindow,
-    /// "at most 465 octets further": 465, by the sender's window.
+    /// "at most 465 octets further": 465, or 465·2^k, by the sender's window.
     pub at_allowance: ByWindow,
     /// At the lowest sequence number that passes, by the other end's window.
     pub at_lowest: ByWindow,
     /// At the oldest acknowledgement that passes: first arrivals and repeats.
     pub at_oldest: [u64; 2],
+    /// Of those at the allowance and at the oldest acknowledgement, the ones whose
+    /// sender's windows are shifted.
+    pub at_scaled_allowance: u64,
+    pub at_scaled_oldest: [u64; 2],
 }
 
 impl OvertakenCounts {
@@ -46,7 +48,7 @@ impl OvertakenCounts {
         self.by_reset[again] += u64::from(reaching.reset_overtook);
         if let Some(latest) = &reaching.latest {
             self.kinds(reaching);
-            self.limits(held.ends[sender], held.ends[1 - sender], reaching, latest);
+            self.limits(held, sender, reaching, latest);
         }
     }
 
@@ -60,20 +62,25 @@ impl OvertakenCounts {
     }
 
     /// Arrivals at a limit: one octet further is not allowed, or is blocked.
-    fn limits(&mut self, from: End, to: End, reaching: &Reaching, latest: &Sending) {
+    fn limits(&mut self, held: &Connection, sender: usize, reaching: &Reaching, latest: &Sending) {
+        let (from, to) = (held.ends[sender], held.ends[1 - sender]);
         let (start, said) = (reaching.sending.start, reaching.sending.acknowledgement);
+        let scale = held.scale(sender);
+        let is_scaled = scale > 0;
         let is_at_start = latest.received == start;
         self.at_start[kind(to.win)] += u64::from(is_at_start);
-        let is_at_allowance = latest.acknowledgement == said + ALLOWANCE;
+        let is_at_allowance = latest.acknowledgement == said + reaching.sending.allowance();
         self.at_allowance[kind(from.win)] += u64::from(is_at_allowance);
+        self.at_scaled_allowance += u64::from(is_at_allowance && is_scaled);
         let is_lowest = from.end.wrapping_sub(start as u32) == to.win;
         self.at_lowest[kind(to.win)] += u64::from(is_lowest);
-        let is_oldest = to.end.wrapping_sub(said as u32) == OLDEST_ACKNOWLEDGEMENT;
+        let is_oldest = to.end.wrapping_sub(said as u32) == OLDEST_ACKNOWLEDGEMENT << scale;
         self.at_oldest[usize::from(reaching.again)] += u64::from(is_oldest);
+        self.at_scaled_oldest[usize::from(reaching.again)] += u64::from(is_oldest && is_scaled);
     }
 
     /// Each count or row of counts with its name.
-    pub fn named(&self) -> [(&'static str, &[u64]); 9] {
+    pub fn named(&self) -> [(&'static str, &[u64]); 11] {
         [
             ("overtaken, first", slice::from_ref(&self.first)),
             ("overtaken, again", slice::from_ref(&self.again)),
@@ -89,7 +96,15 @@ impl OvertakenCounts {
             ("equality in the start, by window", &self.at_start),
             ("equality in the allowance, by window", &self.at_allowance),
             ("at the lowest sequence number, by window", &self.at_lowest),
-            ("66,000 behind, first and again", &self.at_oldest),
+            ("66,000·2^k behind, first and again", &self.at_oldest),
+            (
+                "equality in the allowance, scaled",
+                slice::from_ref(&self.at_scaled_allowance),
+            ),
+            (
+                "66,000·2^k behind, scaled, first and again",
+                &self.at_scaled_oldest,
+            ),
         ]
     }
 }
@@ -99,6 +114,7 @@ fn kind(window: u32) -> usize {
         0..=464 => 0,
         465..=4_999 => 1,
         5_000..=65_534 => 2,
-        _ => 3,
+        65_535 => 3,
+        _ => 4,
     }
 }

@@ -3,7 +3,7 @@
 //! full ones, and illegal lengths.
 
 use super::random::Random;
-use crate::connection::{Connection, End};
+use crate::connection::{Connection, End, ANSWERER, LARGEST_SHIFT, LARGEST_WINDOW, OPENER};
 use crate::table::{self, Entry, Names, CLOCK_LIMIT, ENTRY, MOST_PLACES};
 
 /// "deadline at most header clock plus 432,000,000"
@@ -17,7 +17,9 @@ const DEADLINE: usize = 16;
 const ENDS: [usize; 2] = [24, 36];
 const EDGES: [usize; 2] = [28, 40];
 const WINS: [usize; 2] = [32, 44];
-const LAST_ZEROS: usize = 48;
+const SHIFTS: [usize; 2] = [48, 49];
+const OFFERS: usize = 50;
+const LAST_ZEROS: usize = 51;
 
 /// The clauses of "Sound".
 #[derive(Clone, Copy, Debug, PartialEq, Eq)]
@@ -36,9 +38,13 @@ pub enum Clause {
     Edge,
     Stage1Opener,
     Stage1Answerer,
+    Shift,
+    ShiftWithoutOffer,
+    Offers,
+    Stage1Offer,
 }
 
-pub const CLAUSES: [Clause; 14] = [
+pub const CLAUSES: [Clause; 18] = [
     Clause::HeaderClock,
     Clause::HeaderRest,
     Clause::FreeEntry,
@@ -53,6 +59,10 @@ pub const CLAUSES: [Clause; 14] = [
     Clause::Edge,
     Clause::Stage1Opener,
     Clause::Stage1Answerer,
+    Clause::Shift,
+    Clause::ShiftWithoutOffer,
+    Clause::Offers,
+    Clause::Stage1Offer,
 ];
 
 /// Breaks one clause in a sound table.
@@ -60,7 +70,8 @@ pub fn make_unsound(table: &mut [u8], clause: Clause, random: &mut Random) {
     let clock = table::clock(table);
     let place = random.index(table::places(table));
     let stage = match clause {
-        Clause::Stage1Opener | Clause::Stage1Answerer => 1,
+        Clause::Stage1Opener | Clause::Stage1Answerer | Clause::Stage1Offer => 1,
+        Clause::Shift | Clause::ShiftWithoutOffer | Clause::Offers => random.between(1, 6) as u8,
         Clause::Fins => random.pick(&[1, 2, 3, 4, 5, 6, 6, 6]),
         _ => random.between(2, 6) as u8,
     };
@@ -86,7 +97,10 @@ pub fn make_unsound(table: &mut [u8], clause: Clause, random: &mut Random) {
         Clause::Stage => entry[0] = random.pick(&[7, 7, 8, 128, 255]),
         Clause::Side => entry[SIDE] = random.pick(&[2, 3, 128, 255]),
         Clause::ZeroByte => entry[ZERO] = bit,
-        Clause::LastZeros => entry[random.between(LAST_ZEROS as u64, 63) as usize] = bit,
+        Clause::LastZeros => {
+            let at = random.between(LAST_ZEROS as u64, 63) as usize;
+            entry[random.pick(&[LAST_ZEROS, at, at])] = bit;
+        }
         Clause::Fins => entry[FINS] = wrong_fins(stage, random),
         Clause::Deadline => {
             let past = clock + LONGEST_LIFE + 1;
@@ -95,18 +109,20 @@ pub fn make_unsound(table: &mut [u8], clause: Clause, random: &mut Random) {
         }
         Clause::WinZero => put(entry, WINS[end], &[0; 4]),
         Clause::WinAbove => {
-            let win = random.pick(&[65_536u32, 65_537, 1 << 31, u32::MAX]);
+            let past = LARGEST_WINDOW + 1;
+            let win = random.pick(&[past, past, past + 1, 1 << 30, 1 << 31, u32::MAX]);
             put(entry, WINS[end], &win.to_be_bytes());
         }
         Clause::Edge => {
             let place = random.place();
-            let past = random.pick(&[65_536u32, 1 << 31, u32::MAX]);
+            let next = LARGEST_WINDOW + 1;
+            let past = random.pick(&[next, next, next, 1 << 30, 1 << 31, u32::MAX]);
             put(entry, ENDS[end], &place.to_be_bytes());
             put(entry, EDGES[end], &place.wrapping_add(past).to_be_bytes());
         }
         Clause::Stage1Opener => {
             let place = random.place();
-            let past = random.pick(&[1u32, 65_535]);
+            let past = random.pick(&[1u32, 65_535, LARGEST_WINDOW]);
             put(entry, ENDS[0], &place.to_be_bytes());
             put(entry, EDGES[0], &place.wrapping_add(past).to_be_bytes());
         }
@@ -115,6 +131,24 @@ pub fn make_unsound(table: &mut [u8], clause: Clause, random: &mut Random) {
             1 => entry[EDGES[1] + 3] = 1,
             _ => entry[WINS[1] + 3] = 2,
         },
+        Clause::Shift => {
+            // The answerer has no offer yet in stage 1.
+            let end = if stage == 1 { OPENER } else { end };
+            entry[OFFERS] |= 1 << end;
+            entry[SHIFTS[end]] = random.pick(&[15, 15, 16, 127, 128, 255]);
+        }
+        Clause::ShiftWithoutOffer => {
+            entry[OFFERS] &= !(1 << end);
+            entry[SHIFTS[end]] = random.pick(&[1, 7, 14, 15]);
+        }
+        Clause::Offers => {
+            let any = random.between(4, 255) as u8;
+            entry[OFFERS] = random.pick(&[4, any, any]);
+        }
+        Clause::Stage1Offer => {
+            entry[OFFERS] |= 2;
+            entry[SHIFTS[ANSWERER]] = random.pick(&[0, 0, 7, 14]);
+        }
     }
 }
 
@@ -210,11 +244,18 @@ fn turn_around(table: &mut [u8], random: &mut Random) {
         held.side = 1 - held.side;
         if held.stage > 1 {
             held.ends.swap(0, 1);
-            held.fins = held.fins >> 1 | (held.fins & 1) << 1;
+            held.shifts.swap(0, 1);
+            held.fins = swap_bits(held.fins);
+            held.offers = swap_bits(held.offers);
         }
         entry.names = entry.names.reversed();
         table::store_entry(table, place, &entry);
     }
+}
+
+/// The opener's bit as the answerer's and the other way round.
+fn swap_bits(bits: u8) -> u8 {
+    bits >> 1 | (bits & 1) << 1
 }
 
 /// Up only: a deadline may be no further than the longest life from it.
@@ -291,6 +332,7 @@ fn sound_entry(stage: u8, deadline: u64, random: &mut Random) -> Entry {
     } else {
         [record(random), record(random)]
     };
+    let (shifts, offers) = scaling(stage, random);
     Entry {
         names: Names {
             opener_address: 0x0a00_0000 + random.below(8) as u32,
@@ -309,8 +351,24 @@ fn sound_entry(stage: u8, deadline: u64, random: &mut Random) -> Entry {
             },
             deadline,
             ends,
+            shifts,
+            offers,
         },
     }
+}
+
+/// Sound shifts and offers: of neither end, of both and of one. "Soundness: [..]
+/// shifts to 14, 0 where none was offered, no answerer's offer in stage 1."
+fn scaling(stage: u8, random: &mut Random) -> ([u8; 2], u8) {
+    let offers = match stage {
+        1 => random.pick(&[0, 1]),
+        _ => random.pick(&[0, 0, 1, 2, 3, 3, 3, 3]),
+    };
+    let shifts = [OPENER, ANSWERER].map(|end| match offers >> end & 1 {
+        0 => 0,
+        _ => random.pick(&[0, 1, 7, 8, LARGEST_SHIFT, LARGEST_SHIFT]),
+    });
+    (shifts, offers)
 }
 
 fn record(random: &mut Random) -> End {
@@ -323,12 +381,15 @@ fn record(random: &mut Random) -> End {
     }
 }
 
-/// From the lowest to 65,535, its ends often.
+/// From the lowest to the largest window, or to the largest that is not shifted,
+/// its ends often. "Soundness: each win and each (edge − end) up to that largest
+/// window", whatever the shifts are.
 fn count(lowest: u64, random: &mut Random) -> u32 {
+    let largest = random.pick(&[65_535, 65_535, u64::from(LARGEST_WINDOW)]);
     let count = match random.below(4) {
         0 => lowest,
-        1 => 65_535,
-        _ => random.between(lowest, 65_535),
+        1 => largest,
+        _ => random.between(lowest, largest),
     };
     count as u32
 }

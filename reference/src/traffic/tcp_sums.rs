@@ -173,6 +173,7 @@ mod tests {
     use crate::packet::{read, ACK};
     use crate::table::Names;
     use crate::traffic::draft::Draft;
+    use crate::traffic::options::Options;
 
     fn packet(random: &mut Random) -> Vec<u8> {
         let draft = Draft {
@@ -187,6 +188,7 @@ mod tests {
             acknowledgement: random.place(),
             window: random.window(),
             payload: random.index(40),
+            options: Options::any(random),
         };
         draft.packet_to_spoil(random)
     }

@@ -6,7 +6,7 @@ use super::random::Random;
 use crate::packet::{FIN, SYN};
 use std::collections::VecDeque;
 
-/// "acknowledges at most 465 octets further than it"
+/// "acknowledges at most 465 octets further than it", where windows are not scaled.
 pub const ALLOWANCE: u64 = 465;
 /// The most segments that wait in sending order.
 const LONGEST_QUEUE: usize = 4;
@@ -139,7 +139,7 @@ impl Way {
     fn first_at_limit(&self) -> Option<usize> {
         let latest = self.latest?;
         self.late.iter().position(|Sent { sending, .. }| {
-            latest.acknowledgement == sending.acknowledgement + ALLOWANCE
+            latest.acknowledgement == sending.acknowledgement + sending.allowance()
                 && latest.received <= sending.start
         })
     }
@@ -147,12 +147,12 @@ impl Way {
     /// "if every segment without RST of its sender that was sent later but arrived
     /// earlier was sent while the highest acknowledgement that sender had received
     /// was no further than the overtaken segment's start, and acknowledges at most
-    /// 465 octets further than it". The highest acknowledgement received and those
+    /// 465 octets further than it", or 465·2^k. The highest acknowledgement received and those
     /// sent never fall in sending order, so the last one speaks for all.
     fn may_arrive(&self, overtaken: &Sending) -> bool {
         self.overtaker_of(overtaken).is_none_or(|latest| {
             latest.received <= overtaken.start
-                && latest.acknowledgement <= overtaken.acknowledgement + ALLOWANCE
+                && latest.acknowledgement <= overtaken.acknowledgement + overtaken.allowance()
         })
     }
 
@@ -217,7 +217,7 @@ impl Way {
         }
         let at = random.index(count);
         let sent = self.late.iter().chain(&self.queue).nth(at)?;
-        Some(sent.sending.acknowledgement + ALLOWANCE)
+        Some(sent.sending.acknowledgement + sent.sending.allowance())
     }
 }
 
@@ -234,6 +234,7 @@ mod tests {
             payload: 10,
             acknowledgement,
             window: 1_000,
+            scale: 0,
             received,
             number: 0,
         }
@@ -262,6 +263,20 @@ mod tests {
         assert!(!comes_late(overtaken, sending(ACK, 100, 2_466)));
         assert!(comes_late(sending(ACK | FIN, 90, 2_000), overtaken));
         assert!(!comes_late(sending(SYN | ACK, 90, 2_000), overtaken));
+    }
+
+    /// "item 7's allowance: 465·2^k"
+    #[test]
+    fn the_allowance_is_scaled() {
+        for scale in [1, 7, 14] {
+            let scaled = |received: u64, acknowledgement: u64| Sending {
+                scale,
+                ..sending(ACK, received, acknowledgement)
+            };
+            let (overtaken, furthest) = (scaled(90, 2_000), 2_000 + (465 << scale));
+            assert!(comes_late(overtaken, scaled(100, furthest)));
+            assert!(!comes_late(overtaken, scaled(100, furthest + 1)));
+        }
     }
 
     /// A reset overtakes whatever its numbers are; no SYN arrives after it.

@@ -2,22 +2,23 @@
 //! between them probes at the bounds, spoilt and damaged packets, floods,
 //! strangers and resets. No end ever gets a reset: they are lost past the filter
 //! and repeated, and the honest ends go on (document 02, item 6). Honest segments
-//! overtake each other, and resets overtake them (item 7). The table is kept as
-//! this library's filter leaves it, so that the next packets can be aimed.
+//! overtake each other, and resets overtake them (item 7). Windows are scaled
+//! where both ends offered it, SYNs offer again and have malformed options (item
+//! 8). The table is kept as this library's filter leaves it, so that the next
+//! packets can be aimed.
 
 use super::draft::{spoil, Draft};
 use super::honest::Link;
+use super::options::Options;
 use super::overtaken::OvertakenCounts;
 use super::random::Random;
 use super::tables::{fill, vacate};
 use super::tcp_sums::spoil_tcp_sum;
-use crate::connection::{Connection, ANSWERER, OPENER, RESET_STAGE};
+use crate::connection::{Connection, ANSWERER, OLDEST_ACKNOWLEDGEMENT, OPENER, RESET_STAGE};
 use crate::filter::{filter, PASSED};
 use crate::packet::{ACK, FIN, RST, SYN};
 use crate::table::{self, Entry, Names, CLOCK_LIMIT, ENTRY};
 
-/// "(T.end − a) mod 2^32 ≤ 66,000"
-const OLDEST_ACKNOWLEDGEMENT: u32 = 66_000;
 /// The most honest connections at a time.
 const MOST_LINKS: usize = 12;
 /// The most passed resets that are kept to be repeated.
@@ -137,6 +138,8 @@ impl World {
                 310..=319 => self.expiry_probe(was_reset),
                 320..=325 => self.reopening(),
                 326..=329 => self.damaged(),
+                330..=339 => self.malformed_syn(),
+                340..=345 => self.repeated_syn(),
                 _ => None,
             }
         };
@@ -404,13 +407,18 @@ impl World {
             acknowledgement: to.end.wrapping_sub(random.pick(&[0, 0, 1, 500])),
             window: random.window(),
             payload,
+            options: Options::any(random),
         };
         match random.below(9) {
             0 | 1 => numbers.sequence = from.edge.wrapping_sub(octets).wrapping_add(step),
             2 | 3 => numbers.sequence = from.end.wrapping_sub(to.win).wrapping_add(step),
             4 | 5 => numbers.acknowledgement = to.end.wrapping_add(step),
             6 | 7 => {
-                let oldest = to.end.wrapping_sub(OLDEST_ACKNOWLEDGEMENT);
+                // Now and then where it would be by the other end's shift, or by
+                // none.
+                let own = held.scale(sender);
+                let scale = random.pick(&[own, own, own, own, held.scale(1 - sender), 0]);
+                let oldest = to.end.wrapping_sub(OLDEST_ACKNOWLEDGEMENT << scale);
                 numbers.acknowledgement = oldest.wrapping_add(step);
             }
             _ => numbers.go_far(random),
@@ -453,6 +461,7 @@ impl World {
             acknowledgement: opener_end.wrapping_add(step),
             window: random.window(),
             payload,
+            options: Options::any(random),
         };
         Some(self.arrival_on(&entry, sender, numbers))
     }
@@ -498,6 +507,7 @@ impl World {
             acknowledgement: held.ends[OPENER].end,
             window: self.random.window(),
             payload: self.random.index(3),
+            options: Options::any(&mut self.random),
         }
     }
 
@@ -520,7 +530,7 @@ impl World {
             1 => random.between(0, rest.min(64)),
             _ => 0,
         };
-        let oldest = u64::from(OLDEST_ACKNOWLEDGEMENT);
+        let oldest = u64::from(OLDEST_ACKNOWLEDGEMENT << held.scale(sender));
         let age = random.between(0, oldest);
         let age = random.pick(&[0, 0, age, oldest]);
         let acknowledgement = if flags & ACK == 0 {
@@ -534,6 +544,7 @@ impl World {
             acknowledgement,
             window: random.window(),
             payload: payload.min(self.longest as u64) as usize,
+            options: Options::any(random),
         }
     }
 
@@ -580,6 +591,7 @@ impl World {
             acknowledgement: ends[ANSWERER].end,
             window: self.random.window(),
             payload: 0,
+            options: Options::any(&mut self.random),
         };
         let mut arrival = if self.random.once_in(4) {
             self.flood_arrival()?
@@ -663,7 +675,59 @@ impl World {
         Some(arrival)
     }
 
-    /// A packet that answers 5 to 10 or 16 refuse, mostly of a live connection.
+    /// A SYN, with or without ACK, of a live connection in any stage: the one that
+    /// its end sent, with any options, so that it may offer another shift or offer
+    /// one first. "Offers on a repeated SYN change nothing."
+    fn repeated_syn(&mut self) -> Option<Arrival> {
+        let entry = self.live_entry(|_| true)?;
+        let (sender, numbers) = self.own_syn(&entry.connection);
+        Some(self.arrival_on(&entry, sender, numbers))
+    }
+
+    /// What would often pass but for its options: "19 malformed options on a SYN".
+    fn malformed_syn(&mut self) -> Option<Arrival> {
+        let options = Options::malformed(&mut self.random);
+        let entry = match self.random.below(4) {
+            0 => None,
+            1 => self.live_entry(|held| held.stage == 1),
+            _ => self.live_entry(|_| true),
+        };
+        if let Some(entry) = entry {
+            let (sender, numbers) = self.own_syn(&entry.connection);
+            return Some(self.arrival_on(&entry, sender, Numbers { options, ..numbers }));
+        }
+        let numbers = self.random_numbers(&[SYN, SYN, SYN | ACK]);
+        let draft = Numbers { options, ..numbers }.draft(self.random_names());
+        Some(Arrival {
+            side: self.random.pick(&[0, 0, 1]),
+            clock: self.stranger_clock(),
+            packet: draft.packet(&mut self.random),
+        })
+    }
+
+    /// SYN of the opener or SYN+ACK of the answerer, as near as the entry tells: at
+    /// the sender's end, where it was if nothing came after it.
+    fn own_syn(&mut self, held: &Connection) -> (usize, Numbers) {
+        let random = &mut self.random;
+        let sender = random.index(2);
+        let answers_first = held.stage == 1 && sender == ANSWERER;
+        let sequence = if answers_first {
+            random.place()
+        } else {
+            held.ends[sender].end.wrapping_sub(1)
+        };
+        let numbers = Numbers {
+            flags: [SYN, SYN | ACK][sender],
+            sequence,
+            acknowledgement: held.ends[1 - sender].end,
+            window: random.window(),
+            payload: 0,
+            options: Options::any(random),
+        };
+        (sender, numbers)
+    }
+
+    /// A packet that answers 5 to 10, 16 or 19 refuse, mostly of a live connection.
     fn spoilt(&mut self) -> Option<Arrival> {
         let names = match self.live_entry(|_| true) {
             Some(entry) if !self.random.once_in(4) => entry.names,
@@ -700,6 +764,7 @@ impl World {
             acknowledgement: random.place(),
             window: random.window(),
             payload,
+            options: Options::any(random),
         }
     }
 }
@@ -712,6 +777,7 @@ struct Numbers {
     acknowledgement: u32,
     window: u16,
     payload: usize,
+    options: Options,
 }
 
 impl Numbers {
@@ -723,6 +789,7 @@ impl Numbers {
             acknowledgement: self.acknowledgement,
             window: self.window,
             payload: self.payload,
+            options: self.options,
         }
     }
 
@@ -779,7 +846,7 @@ mod tests {
     #[test]
     fn honest_ends_go_on_after_resets() {
         let mut returned = [0; 6];
-        for seed in 1..5 {
+        for seed in 1..9 {
             let mut world = World::new(seed, 64, 1_900);
             for _ in 0..10_000 {
                 let were_reset: Vec<u32> = world

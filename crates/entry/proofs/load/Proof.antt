@@ -21,13 +21,17 @@ read-flow-requires c κs = search rules
 numbers-at-requires : tie.Need-numbers-at-requires
 numbers-at-requires c κs = search rules
 
+scaling-at-requires : tie.Need-scaling-at-requires
+scaling-at-requires c κs = search rules
+
 load-connection-requires : tie.Need-load-connection-requires
 load-connection-requires c κs = search rules
 
 returns : tie.Need-returns
 unfolding entry_at
 returns c =
-    let n = c.before in
+    let s = c.before in
+    let n = s.before in
     let k = n.before in
     let p = k.before in
     let d = p.before in
@@ -37,7 +41,9 @@ returns c =
     let addresses = d.addresses_at.ensures in
     let ports = p.ports_at.ensures in
     let key = k.read-flow.ensures ∙ (λ i. flow_at a.version t (addresses i) (ports i)) in
-    let connection = c.load-connection.ensures ∙ ap (connection_at t o.place_at.result) n.numbers_at.ensures in
+    let numbers = n.numbers_at.ensures in
+    let scaling = s.scaling_at.ensures in
+    let connection = c.load-connection.ensures ∙ (λ i. connection_at t o.place_at.result (numbers i) (scaling i)) in
     (λ i. record { key = key i; connection = connection i }) ∙ ap (entry_at a.version t) o.place_at.ensures
 
 pub load_spec : {M : Type 1} → statement M
@@ -49,5 +55,6 @@ load_spec =
     ports-at-requires
     read-flow-requires
     numbers-at-requires
+    scaling-at-requires
     load-connection-requires
     returns)

@@ -28,8 +28,8 @@ numbers-at-requires c κs = search rules
 store-numbers-requires : tie.Need-store-numbers-requires
 store-numbers-requires c κs = search rules
 
-rest-at-requires : tie.Need-rest-at-requires
-rest-at-requires c κs = search rules
+scaling-at-requires : tie.Need-scaling-at-requires
+scaling-at-requires c κs = search rules
 
 store-rest-requires : tie.Need-store-rest-requires
 store-rest-requires c κs = search rules
@@ -62,7 +62,7 @@ store_spec =
     store-flow-requires
     numbers-at-requires
     store-numbers-requires
-    rest-at-requires
+    scaling-at-requires
     store-rest-requires
     same_length
     returns)

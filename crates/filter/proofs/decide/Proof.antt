@@ -1,4 +1,4 @@
--- Where rows 1 to 4 don't refuse, the side is 0 or 1, the table has a header and its places, and the clock used is under 2^48.
+-- Where rows 1 to 4 don't refuse, the side is 0 or 1, the table has a header and its places and is sound, and the clock used is under 2^48.
 use Prim.Native.Nat.{◌≤◌}
 use mathlib.Core.Path.{sym, ap, ◌∙◌}
 use native.Mathlib.Omega.{arith}
@@ -7,7 +7,7 @@ use Rattle.rows.specs.Rows.{Blocked, on_segment}
 use Rattle.rows.specs.Connections.{connections}
 use Rattle.entry.specs.Layout.{header_size, place_at}
 use Rattle.entry.proofs.Places.{header-first}
-use Rattle.table.specs.Table.{view_of}
+use Rattle.table.specs.Table.{sound_table, view_of}
 use Rattle.filter.specs.Call.{packet_rows}
 use Rattle.filter.specs.Decision.{decision_of}
 use Rattle.filter.proofs.Rows.{NotRefused, not-refused, past-row-4, legal-length-bounds, places-inside, sound-table-clock}
@@ -41,6 +41,7 @@ on-read-requires c κs =
     let header = sound-table-clock a.version a.table.now _ (fine s).sound in (
       omega (arith, places, places-inside a.version (length a.table.now) (long s)),
       omega (arith, header, c.clock-used.ensures, (fine s).clock-small),
+      ap (sound_table a.version a.table.now) c.before.places-for.ensures ∙ (fine s).sound,
     )
 
 returns : tie.Need-returns

@@ -1,7 +1,8 @@
 -- A live match decides by its entry; without one the segment is unmatched.
 use Prim.Native.Nat.{◌<◌}
-use mathlib.Core.Path.{◌≡◌, sym, ap, ◌∙◌}
+use mathlib.Core.Path.{◌≡◌, sym, ap, subst⁻¹, ◌∙◌}
 use native.Mathlib.Omega.{arith}
+use Rattle.connection.specs.Scaling.{ShiftsFit}
 use Rattle.rows.specs.Rows.{View, on_entry, on_found, on_segment}
 use Rattle.rows.specs.Connections.{connections}
 use Rattle.rows.specs.declared.Found.{Found}
@@ -13,6 +14,7 @@ use Rattle.entry.specs.declared.Entry.{Entry}
 use Rattle.entry.proofs.Places.{place_inside}
 use Rattle.table.specs.Table.{view_of}
 use Rattle.filter.specs.Decision.{decision_of}
+use Rattle.filter.proofs.Shifts.{sound-shifts}
 use borrow.Author.Rules.{rules}
 use Rattle.filter.proofs.on_segment.Statement.{statement}
 use Rattle.filter.proofs.on_segment.Tie as tie
@@ -48,7 +50,12 @@ load-requires c κs =
     omega (arith, place_inside a.version c.before.found.given.0.0 a.places (in-range c.before))
 
 on-entry-requires : tie.Need-on-entry-requires
-on-entry-requires c κs = search rules
+on-entry-requires c κs =
+    let f = c.before.before in
+    let s = f.before.before.before.before in
+    let a = s.args in
+    let fits = sound-shifts a.version a.table.now a.places f.found.given.0.0 s.requires.2 (in-range f) in
+    (omega (arith, s.requires.1), subst⁻¹ (λ (e : Entry). ShiftsFit e.connection) c.load.ensures fits)
 
 enum_told : tie.Need-enum-told
 enum_told c = search rules

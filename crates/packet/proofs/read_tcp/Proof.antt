@@ -1,22 +1,18 @@
--- Row 9 by its tests, row 16 by the sum, row 10 by what was found of the flags.
+-- Row 9 by its tests, row 16 by the sum; the rest is handed on.
 use Prim.Native.Nat.{◌+◌}
 use mathlib.Core.Path.{sym, ap, ◌∙◌}
 use native.Mathlib.Omega.{arith}
 use Rattle.choice.proofs.Choice.{when-<, when-<-not}
-use Rattle.packet.specs.Read.{cause_offset, tcp_rows}
+use Rattle.packet.specs.Read.{tcp_rows}
 use Rattle.packet.specs.declared.Cause.TheVariants.{TcpShort, DataOffsetBelowFive, DataOffsetPastTotal, TcpSum}
-use Rattle.packet.specs.declared.PacketRead.TheVariants.{Refused, Tcp}
-use Rattle.packet.proofs.Flags.{flags-offset}
-use Rattle.packet.proofs.Read.{refused-row16, refused-row10, past-row10}
+use Rattle.packet.specs.declared.PacketRead.TheVariants.{Refused}
+use Rattle.packet.proofs.Read.{refused-row16, past-row16}
 use borrow.Author.Rules.{rules}
 use Rattle.packet.proofs.read_tcp.Statement.{statement}
 use Rattle.packet.proofs.read_tcp.Tie as tie
 
 add-data-offset-at : tie.Need-overflow-add-data-offset-at
 add-data-offset-at c = search rules
-
-add-flags-at : tie.Need-overflow-add-flags-at
-add-flags-at c = search rules
 
 add-checksum-at : tie.Need-overflow-add-checksum-at
 add-checksum-at c = search rules
@@ -63,59 +59,23 @@ returns-4 c =
     ap (Refused TcpSum) (omega arith)
     ∙ sym (refused m.before.before.before.if1.false m.before.if2.false m.if3.false (λ e. c.if4.true (c.before.tcp-sum.ensures ∙ e)))
 
-shared-slice-read-check-flags : tie.Need-shared-slice-read-check-flags
-shared-slice-read-check-flags c = search rules
-
-sub-check-flags : tie.Need-overflow-sub-check-flags
-sub-check-flags c = search rules
-
-sub-check-flags-2 : tie.Need-overflow-sub-check-flags-2
-sub-check-flags-2 c = search rules
-
-check-flags-requires : tie.Need-check-flags-requires
-check-flags-requires c κs = search rules
-
-enum-known-check : tie.Need-enum-known-check
-enum-known-check c = search rules
-
-enum_told : tie.Need-enum-told
-enum_told c = search rules
-
-read-flow-requires : tie.Need-read-flow-requires
-read-flow-requires c κs = search rules
-
-read-segment-requires : tie.Need-read-segment-requires
-read-segment-requires c κs = search rules
+read-summed-requires : tie.Need-read-summed-requires
+read-summed-requires c κs = search rules
 
 returns-5 : tie.Need-returns-5
 returns-5 c =
-    let k = c.before.before.before in
-    let e = k.before.before in
+    let e = c.before in
     let m = e.before.before in
     let a = m.before.before.before.before.before.args in
-    let refused = refused-row10 a.version a.addresses a.s.now a.h a.t in
-    let cause = c.before.check.given.0.0 in
-    let bad = sym k.check-flags.ensures ∙ c.before.check.given.1 in
-    ap (Refused cause) {y = cause_offset a.h cause} (omega (arith, flags-offset a.h _ _ cause bad))
-    ∙ sym (refused m.before.before.before.if1.false m.before.if2.false m.if3.false (sym e.before.tcp-sum.ensures ∙ e.if4.false) _ bad)
-
-returns-6 : tie.Need-returns-6
-returns-6 c =
-    let k = c.before.before.before.before in
-    let e = k.before.before in
-    let m = e.before.before in
-    let a = m.before.before.before.before.before.args in
-    let past = past-row10 a.version a.addresses a.s.now a.h a.t in
-    let fine = sym k.check-flags.ensures ∙ c.before.before.enum_told.given.1 in
-    (λ i. Tcp (c.before.read-flow.ensures i) (c.read-segment.ensures i))
-    ∙ sym (past m.before.before.before.if1.false m.before.if2.false m.if3.false (sym e.before.tcp-sum.ensures ∙ e.if4.false) fine)
+    let past = past-row16 a.version a.addresses a.s.now a.h a.t in
+    c.read-summed.ensures
+    ∙ sym (past m.before.before.before.if1.false m.before.if2.false m.if3.false (sym e.before.tcp-sum.ensures ∙ e.if4.false))
 
 pub read-tcp-spec : {M : Type 1} → statement M
 read-tcp-spec =
     tie.close
     (tie.spec
     add-data-offset-at
-    add-flags-at
     add-checksum-at
     sub-if1
     returns
@@ -127,13 +87,5 @@ read-tcp-spec =
     returns-3
     tcp-sum-requires
     returns-4
-    shared-slice-read-check-flags
-    sub-check-flags
-    sub-check-flags-2
-    check-flags-requires
-    enum-known-check
-    enum_told
-    read-flow-requires
-    read-segment-requires
-    returns-5
-    returns-6)
+    read-summed-requires
+    returns-5)

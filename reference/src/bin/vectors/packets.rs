@@ -1,19 +1,21 @@
 //! Vectors of the packet reader, by the rows of document 01's table. A refusal
 //! is the answer and the offset of document 02, item 2: "5: 0 for the first
 //! three causes, 2 for total length; 6: 10; 7: 6; 8: 9; with h the IP header
-//! length, 9: h if under 20 bytes follow, else h + 12; 10: h + 13.", and item 5:
-//! "16 where the whole sum isn't ffff, after 9 and before 10, offset h + 16".
+//! length, 9: h if under 20 bytes follow, else h + 12; 10: h + 13.", item 5:
+//! "16 where the whole sum isn't ffff, after 9 and before 10, offset h + 16", and
+//! item 8: "19 malformed options on a SYN, after 10, offset of the bad option".
 
 use crate::{Call, Vector};
 
 mod offsets;
+mod options;
 mod tcp_sums;
 
-/// What the base packet gives, without flags and octets.
+/// What the base packet gives, without flags, octets and what it offers.
 const BASE_FIELDS: &str = "0 3221225985 3325256711 4660 22136 2596069104 324508639 9320";
 
 /// What the base packet gives: ACK alone, no payload.
-const BASE: &str = "0 3221225985 3325256711 4660 22136 2596069104 324508639 9320 16 0";
+const BASE: &str = "0 3221225985 3325256711 4660 22136 2596069104 324508639 9320 16 0 0 0";
 
 /// 192.0.2.1 to 198.51.100.7, 40 bytes, TCP, with the right checksum 724e.
 const IP_HEADER: [u8; 20] = [
@@ -157,19 +159,22 @@ fn with_header_length(words: usize) -> Packet {
     Packet::new(&vec![0x01; 4 * (words - 5)], &[], &[])
 }
 
-/// What the base packet with these flags and octets gives.
+/// What the base packet with these flags and octets gives, where it offers no
+/// shift.
 fn passed(flags: u8, octets: u32) -> String {
-    format!("{BASE_FIELDS} {flags} {octets}")
+    format!("{BASE_FIELDS} {flags} {octets} 0 0")
 }
 
 struct Table(Vec<Vector>);
 
 impl Table {
-    /// A packet that must come to row 10 or pass it gets a right TCP checksum;
-    /// one that is refused before stays as it is.
+    /// A packet that must come to row 10 or 19 or pass them gets a right TCP
+    /// checksum; one that is refused before stays as it is.
     fn add(&mut self, label: impl AsRef<str>, packet: Packet, expected: impl Into<String>) {
         let expected = expected.into();
-        let passes_16 = expected.starts_with("10 ") || expected.starts_with("0 ");
+        let passes_16 = ["10 ", "19 ", "0 "]
+            .iter()
+            .any(|start| expected.starts_with(start));
         let packet = if passes_16 { packet.fix_tcp() } else { packet };
         self.add_as_it_is(label, packet, expected);
     }
@@ -212,6 +217,7 @@ pub fn vectors() -> Vec<Vector> {
     fields_that_no_rule_names(&mut table);
     offsets::add(&mut table);
     tcp_sums::add(&mut table);
+    options::add(&mut table);
     table.0
 }
 
@@ -226,7 +232,7 @@ const DOCUMENT_EXAMPLES: [(&str, [u8; 40], &str); 3] = [
             0x00, 0x01, 0x0a, 0x00, 0x00, 0x02, 0x04, 0x00, 0x00, 0x50, 0x00, 0x00, 0x00, 0x64,
             0x00, 0x00, 0x00, 0x00, 0x50, 0x02, 0x03, 0xe8, 0x93, 0x44, 0x00, 0x00,
         ],
-        "0 167772161 167772162 1024 80 100 0 1000 2 1",
+        "0 167772161 167772162 1024 80 100 0 1000 2 1 0 0",
     ),
     (
         "document example 2",
@@ -235,7 +241,7 @@ const DOCUMENT_EXAMPLES: [(&str, [u8; 40], &str); 3] = [
             0x00, 0x02, 0x0a, 0x00, 0x00, 0x01, 0x00, 0x50, 0x04, 0x00, 0x00, 0x00, 0x01, 0xf4,
             0x00, 0x00, 0x00, 0x65, 0x50, 0x12, 0x07, 0xd0, 0x8d, 0x57, 0x00, 0x00,
         ],
-        "0 167772162 167772161 80 1024 500 101 2000 18 1",
+        "0 167772162 167772161 80 1024 500 101 2000 18 1 0 0",
     ),
     (
         "document example 3",
@@ -244,7 +250,7 @@ const DOCUMENT_EXAMPLES: [(&str, [u8; 40], &str); 3] = [
             0x00, 0x01, 0x0a, 0x00, 0x00, 0x02, 0x04, 0x00, 0x00, 0x50, 0x00, 0x00, 0x00, 0x65,
             0x00, 0x00, 0x01, 0xf6, 0x50, 0x10, 0x03, 0xe8, 0x91, 0x3f, 0x00, 0x00,
         ],
-        "0 167772161 167772162 1024 80 101 502 1000 16 0",
+        "0 167772161 167772162 1024 80 101 502 1000 16 0 0 0",
     ),
 ];
 
@@ -531,7 +537,7 @@ fn header_sums(table: &mut Table) {
     table.add(
         "a TCP byte is not in the sum",
         base().put(20, &[0x92]),
-        "0 3221225985 3325256711 37428 22136 2596069104 324508639 9320 16 0",
+        "0 3221225985 3325256711 37428 22136 2596069104 324508639 9320 16 0 0 0",
     );
 
     let options = |bytes: &[u8]| Packet::new(bytes, &[], &[]);
@@ -581,12 +587,12 @@ fn swapped_words(table: &mut Table) {
     table.add(
         "halves of the source swapped",
         base().put(12, &[0x02, 0x01, 0xc0, 0x00]),
-        "0 33669120 3325256711 4660 22136 2596069104 324508639 9320 16 0",
+        "0 33669120 3325256711 4660 22136 2596069104 324508639 9320 16 0 0 0",
     );
     table.add(
         "source and destination swapped",
         base().put(12, &[0xc6, 0x33, 0x64, 0x07, 0xc0, 0x00, 0x02, 0x01]),
-        "0 3325256711 3221225985 4660 22136 2596069104 324508639 9320 16 0",
+        "0 3325256711 3221225985 4660 22136 2596069104 324508639 9320 16 0 0 0",
     );
     table.add(
         "identification and sum swapped",
@@ -1184,107 +1190,107 @@ fn field_values(table: &mut Table) {
         (
             "source ones",
             address(12, &ones),
-            "0 4294967295 3325256711 4660 22136 2596069104 324508639 9320 16 0",
+            "0 4294967295 3325256711 4660 22136 2596069104 324508639 9320 16 0 0 0",
         ),
         (
             "source zero",
             address(12, &zeros),
-            "0 0 3325256711 4660 22136 2596069104 324508639 9320 16 0",
+            "0 0 3325256711 4660 22136 2596069104 324508639 9320 16 0 0 0",
         ),
         (
             "source 80000000",
             address(12, &[0x80, 0, 0, 0]),
-            "0 2147483648 3325256711 4660 22136 2596069104 324508639 9320 16 0",
+            "0 2147483648 3325256711 4660 22136 2596069104 324508639 9320 16 0 0 0",
         ),
         (
             "destination ones",
             address(16, &ones),
-            "0 3221225985 4294967295 4660 22136 2596069104 324508639 9320 16 0",
+            "0 3221225985 4294967295 4660 22136 2596069104 324508639 9320 16 0 0 0",
         ),
         (
             "destination zero",
             address(16, &zeros),
-            "0 3221225985 0 4660 22136 2596069104 324508639 9320 16 0",
+            "0 3221225985 0 4660 22136 2596069104 324508639 9320 16 0 0 0",
         ),
         (
             "destination 80000000",
             address(16, &[0x80, 0, 0, 0]),
-            "0 3221225985 2147483648 4660 22136 2596069104 324508639 9320 16 0",
+            "0 3221225985 2147483648 4660 22136 2596069104 324508639 9320 16 0 0 0",
         ),
         (
             "source port ones",
             tcp(20, &[0xff; 2]),
-            "0 3221225985 3325256711 65535 22136 2596069104 324508639 9320 16 0",
+            "0 3221225985 3325256711 65535 22136 2596069104 324508639 9320 16 0 0 0",
         ),
         (
             "source port zero",
             tcp(20, &[0x00; 2]),
-            "0 3221225985 3325256711 0 22136 2596069104 324508639 9320 16 0",
+            "0 3221225985 3325256711 0 22136 2596069104 324508639 9320 16 0 0 0",
         ),
         (
             "destination port ones",
             tcp(22, &[0xff; 2]),
-            "0 3221225985 3325256711 4660 65535 2596069104 324508639 9320 16 0",
+            "0 3221225985 3325256711 4660 65535 2596069104 324508639 9320 16 0 0 0",
         ),
         (
             "destination port zero",
             tcp(22, &[0x00; 2]),
-            "0 3221225985 3325256711 4660 0 2596069104 324508639 9320 16 0",
+            "0 3221225985 3325256711 4660 0 2596069104 324508639 9320 16 0 0 0",
         ),
         (
             "sequence ones",
             tcp(24, &ones),
-            "0 3221225985 3325256711 4660 22136 4294967295 324508639 9320 16 0",
+            "0 3221225985 3325256711 4660 22136 4294967295 324508639 9320 16 0 0 0",
         ),
         (
             "sequence zero",
             tcp(24, &zeros),
-            "0 3221225985 3325256711 4660 22136 0 324508639 9320 16 0",
+            "0 3221225985 3325256711 4660 22136 0 324508639 9320 16 0 0 0",
         ),
         (
             "sequence 80000000",
             tcp(24, &[0x80, 0, 0, 0]),
-            "0 3221225985 3325256711 4660 22136 2147483648 324508639 9320 16 0",
+            "0 3221225985 3325256711 4660 22136 2147483648 324508639 9320 16 0 0 0",
         ),
         (
             "acknowledgement ones",
             tcp(28, &ones),
-            "0 3221225985 3325256711 4660 22136 2596069104 4294967295 9320 16 0",
+            "0 3221225985 3325256711 4660 22136 2596069104 4294967295 9320 16 0 0 0",
         ),
         (
             "acknowledgement zero",
             tcp(28, &zeros),
-            "0 3221225985 3325256711 4660 22136 2596069104 0 9320 16 0",
+            "0 3221225985 3325256711 4660 22136 2596069104 0 9320 16 0 0 0",
         ),
         (
             "acknowledgement 80000000",
             tcp(28, &[0x80, 0, 0, 0]),
-            "0 3221225985 3325256711 4660 22136 2596069104 2147483648 9320 16 0",
+            "0 3221225985 3325256711 4660 22136 2596069104 2147483648 9320 16 0 0 0",
         ),
         (
             "window ones",
             tcp(34, &[0xff; 2]),
-            "0 3221225985 3325256711 4660 22136 2596069104 324508639 65535 16 0",
+            "0 3221225985 3325256711 4660 22136 2596069104 324508639 65535 16 0 0 0",
         ),
         (
             "window zero",
             tcp(34, &[0x00; 2]),
-            "0 3221225985 3325256711 4660 22136 2596069104 324508639 0 16 0",
+            "0 3221225985 3325256711 4660 22136 2596069104 324508639 0 16 0 0 0",
         ),
         (
             "all fields ones",
             base().put(12, &[0xff; 20]).put(34, &[0xff; 6]).fix(),
-            "0 4294967295 4294967295 65535 65535 4294967295 4294967295 65535 16 0",
+            "0 4294967295 4294967295 65535 65535 4294967295 4294967295 65535 16 0 0 0",
         ),
         (
             "all fields zero",
             base().put(12, &[0x00; 20]).put(34, &[0x00; 6]).fix(),
-            "0 0 0 0 0 0 0 0 16 0",
+            "0 0 0 0 0 0 0 0 16 0 0 0",
         ),
         (
             "acknowledgement field kept without ACK",
             base().flags(SYN),
-            "0 3221225985 3325256711 4660 22136 2596069104 324508639 9320 2 1",
+            "0 3221225985 3325256711 4660 22136 2596069104 324508639 9320 2 1 0 0",
         ),
     ] {
         table.add(label, packet, expected);

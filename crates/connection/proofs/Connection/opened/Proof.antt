@@ -15,16 +15,26 @@ life-requires c κs = search rules
 add-deadline : tie.Need-overflow-add-deadline
 add-deadline c = search rules
 
+kept-shift-requires : tie.Need-kept-shift-requires
+kept-shift-requires c κs = search rules
+
+offer-bit-requires : tie.Need-offer-bit-requires
+offer-bit-requires c κs = search rules
+
 returns : tie.Need-returns
 unfolding opened
 returns c =
-    let a = c.before.before.args in λ i. record {
+    let k = c.before.before.before in
+    let a = k.before.before.args in
+    λ i. record {
       stage = 1;
       side = a.side;
       fins = 0;
-      deadline = a.clock + c.life.ensures.0 i;
-      ends = c.before.begun.ensures i ∷ unheard ∷ [];
+      deadline = a.clock + k.life.ensures.0 i;
+      ends = k.before.begun.ensures i ∷ unheard ∷ [];
+      shifts = c.before.kept-shift.ensures i ∷ 0 ∷ [];
+      offers = c.offer-bit.ensures.0 i;
     }
 
 pub opened-spec : {M : Type 1} → statement M
-opened-spec = tie.close (tie.spec begun-requires life-requires add-deadline returns)
+opened-spec = tie.close (tie.spec begun-requires life-requires add-deadline kept-shift-requires offer-bit-requires returns)

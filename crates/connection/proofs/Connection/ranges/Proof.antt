@@ -6,6 +6,9 @@ use borrow.Author.Tests.{not-true, not-false}
 use Rattle.choice.specs.Choice.{◌=ᵇ◌}
 use Rattle.choice.proofs.Choice.{when-true, when-false}
 use Rattle.segment.specs.Flags.{ack}
+use Rattle.connection.specs.Scaling.{shift_in_force}
+use Rattle.connection.specs.Ends.{receiver}
+use Rattle.connection.specs.Ranges.{ack_range, ack_met}
 use Rattle.connection.specs.Decision.{verdict_by_ranges}
 use borrow.Author.Rules.{rules}
 use Rattle.connection.proofs.Connection.ranges.Statement.{statement}
@@ -19,6 +22,15 @@ no-ack c = sym c.before.has_ack.ensures ∙ not-true _ c.if2.taken
 
 acks : (c : tie.Else2) → (ack (flags c.before) =ᵇ 1) ≡ true
 acks c = sym c.before.has_ack.ensures ∙ not-false _ c.if2.left
+
+-- III and IV by the sender's shift
+met :
+    (c : tie.After-ack-met) →
+    let a = c.before.before.before.before.before.before.before.before.args in
+    c.ack-met.result ≡ ack_met (ack_range (shift_in_force a.t1 a.sender)) (receiver a.t1.ends a.sender) a.segment
+met c =
+    let a = c.before.before.before.before.before.before.before.before.args in
+    c.ack-met.ensures ∙ ap (λ (k : ℕ). ack_met (ack_range k) (receiver a.t1.ends a.sender) a.segment) c.before.shift-in-force.ensures.0
 
 mul-from : tie.Need-mul-from
 mul-from c = search rules
@@ -51,24 +63,27 @@ returns-2 c =
     let k = c.before.before in
     sym (when-false _ _ _ (ap not (sym k.before.sequence-met.ensures) ∙ k.if1.left) ∙ when-false _ _ _ (rw (no-ack c)))
 
+shift-in-force-requires : tie.Need-shift-in-force-requires
+shift-in-force-requires c κs = search rules
+
 ack-met-requires : tie.Need-ack-met-requires
 ack-met-requires c κs = search rules
 
 returns-3 : tie.Need-returns-3
 unfolding verdict_by_ranges
 returns-3 c =
-    let k = c.before.before in
+    let k = c.before.before.before in
     let m = k.before.before in
     sym (when-false _ _ _ (ap not (sym m.before.sequence-met.ensures) ∙ m.if1.left)
-    ∙ when-true _ _ _ (rw (acks k) (ap not (sym c.before.ack-met.ensures) ∙ c.if3.taken)))
+    ∙ when-true _ _ _ (rw (acks k) (ap not (sym (met c.before)) ∙ c.if3.taken)))
 
 returns-4 : tie.Need-returns-4
 unfolding verdict_by_ranges
 returns-4 c =
-    let k = c.before.before in
+    let k = c.before.before.before in
     let m = k.before.before in
     sym (when-false _ _ _ (ap not (sym m.before.sequence-met.ensures) ∙ m.if1.left)
-    ∙ when-false _ _ _ (rw (acks k) (ap not (sym c.before.ack-met.ensures) ∙ c.if3.left)))
+    ∙ when-false _ _ _ (rw (acks k) (ap not (sym (met c.before)) ∙ c.if3.left)))
 
 pub ranges-spec : {M : Type 1} → statement M
 ranges-spec =
@@ -83,6 +98,7 @@ ranges-spec =
     returns
     has-ack-requires
     returns-2
+    shift-in-force-requires
     ack-met-requires
     returns-3
     returns-4)

@@ -1,13 +1,9 @@
 use mathlib.Core.Path.{ap, ◌∙◌}
-use Rattle.serial.specs.Serial.{seq_plus, further, larger}
-use Rattle.serial.specs.declared.OctetCount.{OctetCount}
-use Rattle.connection.specs.Ends.{count, granted}
+use Rattle.serial.specs.Serial.{seq_plus, further}
+use Rattle.connection.specs.Ends.{granted}
 use borrow.Author.Rules.{rules}
 use Rattle.connection.proofs.End.granted.Statement.{statement}
 use Rattle.connection.proofs.End.granted.Tie as tie
-
-effective-window-requires : tie.Need-effective-window-requires
-effective-window-requires c κs = search rules
 
 larger-requires : tie.Need-larger-requires
 larger-requires c κs = search rules
@@ -22,12 +18,10 @@ returns : tie.Need-returns
 unfolding granted
 returns c =
     let k = c.before in
-    let w = k.before.before in
-    let a = w.before.before.before.before.before.args in
-    let least = k.before.larger.ensures ∙ ap (λ (n : OctetCount). larger n (count 1)) w.effective-window.ensures in
-    let edge = k.plus.ensures ∙ ap (seq_plus a.segment.ack) least in
+    let a = k.before.before.before.before.before.before.args in
+    let edge = k.plus.ensures ∙ ap (seq_plus a.segment.ack) k.before.larger.ensures in
     let far = c.further.ensures ∙ ap (further a.self.end a.self.edge) edge in
     λ i. record { end = a.self.end; edge = far i; win = a.self.win }
 
 pub granted-spec : {M : Type 1} → statement M
-granted-spec = tie.close (tie.spec effective-window-requires larger-requires plus-requires further-requires returns)
+granted-spec = tie.close (tie.spec larger-requires plus-requires further-requires returns)
