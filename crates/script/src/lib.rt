@@ -1,9 +1,10 @@
 // Reads a script by lines and collects the output, for the programs that run one.
 #![tactic(auto)]
 
-ghost use Rattle.std.specs.Prelude.{◌≡◌, ◌+◌, ◌*◌, ◌%◌, ◌^◌, ◌<◌, ◌≤◌, length, drop, slice_index, [], ◌∷◌, IsOk, IfOk, OnErr};
+ghost use Rattle.std.specs.Prelude.{ℕ, min, Ok, ◌≡◌, ◌+◌, ◌*◌, ◌%◌, ◌^◌, ◌<◌, ◌≤◌, length, drop, slice_index, [], ◌∷◌, IsOk, IfOk, OnErr};
 ghost use Rattle.std.specs.Io.KnownBytes.{Appends};
 ghost use Rattle.report.specs.Text.{decimal_text};
+ghost use Rattle.script.specs.declared.Arrived.TheVariants.{Byte};
 ghost use Rattle.script.specs.Output.{with_byte, with_bytes, all_put};
 ghost use Rattle.script.specs.Fields.{decimal_value, decimal_field, fields_text};
 
@@ -51,9 +52,12 @@ impl Input {
     }
 }
 
-// The next byte of the input.
+// The next byte of the input. One that the chunk holds is given without a read, so that no error comes then.
 fn next_byte<R: Read>(reader: &mut R, chunk: &mut Chunk, input: Input) -> io::Result<Arrived>
-    ensures { length chunk.new ≡ length chunk.old }
+    ensures length_kept { length chunk.new ≡ length chunk.old }
+    ensures held { input.at < min input.have 65536 →
+        (result ≡ Ok (Byte (slice_index chunk.old input.at) (record { at = input.at + 1; have = input.have })))
+        × (chunk.new ≡ chunk.old) }
 {
     let at = input.at;
     if at < least(input.have, 65536) {
@@ -74,7 +78,7 @@ fn next_byte<R: Read>(reader: &mut R, chunk: &mut Chunk, input: Input) -> io::Re
 
 // Reads to the next newline or to the end of the input; what the line cannot hold is dropped. Nothing can be promised of what standard
 // input holds: the answer, the chunk and the line's first `length` bytes are open. Promised: `length` is at most 4,096, the line is
-// unchanged past it, both buffers keep their lengths, also where a read fails.
+// unchanged past it, both buffers keep their lengths, also where a read fails, and none is needed while the chunk holds a newline.
 pub fn next_line<R: Read>(
     reader: &mut R,
     chunk: &mut Chunk,
@@ -83,6 +87,8 @@ pub fn next_line<R: Read>(
 ) -> io::Result<LineEnd>
     ensures length_bound { IfOk result (λ end. (end.length ≤ 4096) × (drop end.length line.new ≡ drop end.length line.old)) }
     ensures line_len_unchanged { (length line.new ≡ length line.old) × (length chunk.new ≡ length chunk.old) }
+    ensures held { (i : ℕ) → start.at ≤ i → i < min start.have 65536 → slice_index chunk.old i ≡ 10 →
+        IsOk result }
 {
     let mut input = start;
     let mut length: usize = 0;

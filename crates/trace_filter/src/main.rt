@@ -70,7 +70,7 @@ fn finish<W: Write, E: Write>(
     write_used(writer, errors, out, last.used)
 }
 
-// Where the input can't be read it ends, and that is the error answered.
+// Where the input can't be read it ends, and that is the error answered, unless the totals can't be written either.
 fn run<R: Read, W: Write, E: Write>(
     reader: &mut R,
     writer: &mut W,
