@@ -241,6 +241,7 @@ fn read_packet(line: &[u8], n: usize, packet: &mut [u8])
 }
 
 // Reads a line into packet. Document 01 leaves the offset free where the line is read: it is 0 here.
+#[tactic(auto, using(choice::proofs::Choice::when_cond), unfolding(crate::specs::Read::read_line, crate::specs::Read::packet_after))]
 pub fn read_line(line: &[u8], packet: &mut [u8]) -> LineRead
     ensures { (result ≡ read_line line.now (length packet.old))
         × (packet.new ≡ packet_after_reading line.now packet.old)
@@ -311,6 +312,7 @@ fn write_fields(side: u8, clock: u64, packet: &[u8], line: &mut [u8])
 }
 
 // Writes the line of a packet.
+#[tactic(auto, using(choice::proofs::Choice::when_cond), unfolding(crate::specs::Write::write_line, crate::specs::Write::line_after))]
 pub fn write_line(side: u32, clock: u64, packet: &[u8], line: &mut [u8]) -> LineWrite
     ensures { (result ≡ write_line side clock (length packet.now) (length line.old))
         × (line.new ≡ line_after_writing side clock packet.now line.old)

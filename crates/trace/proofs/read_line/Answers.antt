@@ -10,7 +10,7 @@ use Rattle.trace.specs.Read.{first_illegal, well_formed, read_line, packet_after
 use Rattle.trace.specs.declared.LineRead.{LineRead}
 use Rattle.trace.specs.declared.LineRead.TheVariants.{Malformed, Frame}
 use Rattle.trace.proofs.Line.{line_side-legal}
-use Rattle.trace.proofs.Read.{well_formed-true, illegal-malformed, short-malformed, even-malformed, well_formed-legal, read_line-too-long, read_line-malformed, read_line-no-room, read_line-frame}
+use Rattle.trace.proofs.Read.{well_formed-true, illegal-malformed, short-malformed, even-malformed, well_formed-legal, read_line-malformed, read_line-no-room, read_line-frame}
 use Rattle.trace.proofs.read_line.Goals.{then-len-lt17-via-then-len-lt17, then-len-lt17-via-else-len-lt17+then-len-ne1}
 use Rattle.trace.proofs.read_line.Goals as goal
 
@@ -25,12 +25,6 @@ told :
     (l out : List ℕ) {r : LineRead} {after : List ℕ} → (r ≡ read_line l (length out)) × (after ≡ packet_after r l out) →
     (r ≡ read_line l (length out)) × (after ≡ packet_after_reading l out) × (read_answer r ≡ reading l out)
 told l out p = (p.0, p.1 ∙ ap (λ r. packet_after r l out) p.0, ap read_answer p.0)
-
-pub returns-then-len-gt4111 : goal.returns-then-len-gt4111
-unfolding packet_after
-returns-then-len-gt4111 c =
-    let a = c.args in
-    told a.line.now a.packet.now (sym (read_line-too-long a.line.now (length a.packet.now) c.if-len-gt4111.true), refl)
 
 pub returns-then-offset-len : goal.returns-then-offset-len
 returns-then-offset-len c =

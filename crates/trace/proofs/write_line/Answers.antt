@@ -44,18 +44,6 @@ returns-then-n-eq0 c =
       refl,
     )
 
-pub returns-then-n-gt2048 : goal.returns-then-n-gt2048
-unfolding write_line line_after
-returns-then-n-gt2048 c =
-    let a = c.args in
-    let n = length a.packet.now in told a.side a.clock a.packet.now a.line.now (
-      sym (when-false _ _ _ (le-ltb 1 a.side (omega arith))
-          ∙ when-false _ _ _ (lt-leb (2 ^ 48) a.clock (omega arith))
-          ∙ when-false _ _ _ (ne_eqb n 0 (λ e. omega arith))
-          ∙ when-true _ _ _ (lt-ltb 2048 n c.if-n-gt2048.true)),
-      refl,
-    )
-
 pub returns-then-line-whole : goal.returns-then-line-whole
 unfolding write_line line_after
 returns-then-line-whole c =
