@@ -1,6 +1,8 @@
 -- The control bits that the rules name (RFC 9293, 3.1); all other bits are ignored.
 use Rattle.std.specs.Prelude.{ℕ, ◌+◌, ◌*◌, ◌/◌, ◌%◌, Bool}
 use Rattle.choice.specs.Choice.{◌=ᵇ◌}
+use Rattle.segment.specs.declared.Flag.{Flag}
+use Rattle.segment.specs.declared.Flag.TheVariants.{Fin, Syn, Rst, Ack}
 
 abbrev pub fin : ℕ → ℕ
 fin f = f % 2
@@ -13,6 +15,13 @@ rst f = f / 4 % 2
 
 abbrev pub ack : ℕ → ℕ
 ack f = f / 16 % 2
+
+-- the bit of each, 1 where it is set
+abbrev pub flag_bit : Flag → ℕ → ℕ
+flag_bit Fin f = fin f
+flag_bit Syn f = syn f
+flag_bit Rst f = rst f
+flag_bit Ack f = ack f
 
 -- RST is set: a reset
 abbrev pub is_reset : ℕ → Bool

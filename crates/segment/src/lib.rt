@@ -3,11 +3,20 @@
 
 ghost use Rattle.std.specs.Prelude.{◌≡◌};
 ghost use Rattle.choice.specs.Choice.{◌=ᵇ◌};
-ghost use Rattle.segment.specs.Flags.{fin, syn, rst, ack};
+ghost use Rattle.segment.specs.Flags.{flag_bit};
 
 use serial::{OctetCount, SeqNum};
 
-#[derive(Clone, Copy)]
+// The control bits that the rules name, each with its place among a segment's flags.
+#[derive(Clone, Copy, Debug, PartialEq, Eq)]
+pub enum Flag {
+    Fin = 1,
+    Syn = 2,
+    Rst = 4,
+    Ack = 16,
+}
+
+#[derive(Clone, Copy, Debug, PartialEq, Eq)]
 pub struct Segment {
     // Document 01: s.
     pub seq: SeqNum,
@@ -15,46 +24,18 @@ pub struct Segment {
     pub ack: SeqNum,
     // Document 01: w.
     pub window: OctetCount,
-    // FIN 1, SYN 2, RST 4, ACK 16; every other bit is 0.
+    // FIN 1, SYN 2, RST 4, ACK 16; every other bit is 0. They stay one number: document 01 has a match over flags, and whoever calls
+    // may give any bits.
     pub flags: u8,
     // Document 01: n, payload octets plus one each for SYN and FIN.
     pub octets: OctetCount,
 }
 
 impl Segment {
-    pub fn has_fin(self) -> bool
-        ensures { result ≡ (fin self.flags =ᵇ 1) }
+    #[tactic(auto, using(crate::proofs::Flags::fin_and, crate::proofs::Flags::syn_and, crate::proofs::Flags::rst_and, crate::proofs::Flags::ack_and))]
+    pub fn has(self, flag: Flag) -> bool
+        ensures { result ≡ (flag_bit flag self.flags =ᵇ 1) }
     {
-        match self.flags % 2 {
-            1 => true,
-            _ => false,
-        }
-    }
-
-    pub fn has_syn(self) -> bool
-        ensures { result ≡ (syn self.flags =ᵇ 1) }
-    {
-        match self.flags / 2 % 2 {
-            1 => true,
-            _ => false,
-        }
-    }
-
-    pub fn has_rst(self) -> bool
-        ensures { result ≡ (rst self.flags =ᵇ 1) }
-    {
-        match self.flags / 4 % 2 {
-            1 => true,
-            _ => false,
-        }
-    }
-
-    pub fn has_ack(self) -> bool
-        ensures { result ≡ (ack self.flags =ᵇ 1) }
-    {
-        match self.flags / 16 % 2 {
-            1 => true,
-            _ => false,
-        }
+        self.flags & flag as u8 != 0
     }
 }

@@ -51,11 +51,6 @@ pub ring_minus-small : (x y : ℕ) → ring_minus x y < 2 ^ 32
 unfolding ring_minus
 ring_minus-small x y = omega arith
 
--- the number that, added to y, wraps to x
-pub ring_minus-unique : (r x y : ℕ) → r < 2 ^ 32 → y < 2 ^ 32 → (r + y) % 2 ^ 32 ≡ x → r ≡ ring_minus x y
-unfolding ring_minus
-ring_minus-unique r x y small small' sum = omega arith
-
 -- counted up from L, a sequence number is reached within a turn
 pub wrap-counted : (L s : ℕ) → s < 2 ^ 32 → wrap (L + ring_minus s (wrap L)) ≡ s
 unfolding wrap ring_minus
@@ -150,12 +145,12 @@ nearest-is E s X high fits = (
 pub nearest-wrap : (E S : ℕ) → 2 ^ 31 ≤ E → E ≤ S + 2 ^ 31 → S < E + 2 ^ 31 → nearest E (wrap S) ≡ S
 nearest-wrap E S high near near' = sym ((nearest-is E (wrap S) S high (wrap-small S)).1 (refl, near, near'))
 
--- counted from half a turn below base, the number that, added to base, wraps to x
-pub nearest-counted :
-    (base x up : ℕ) → up < 2 ^ 32 → base < 2 ^ 32 → (up + base) % 2 ^ 32 ≡ x →
-    nearest (base + 2 ^ 32) x ≡ base + 2 ^ 31 + (up + 2 ^ 31) % 2 ^ 32
-unfolding wrap
-nearest-counted base x up small small' sum =
+-- how far the nearest place lies past half a turn below base
+pub nearest_counted :
+    (base x : ℕ) → base < 2 ^ 32 → x < 2 ^ 32 →
+    nearest (base + 2 ^ 32) x ≡ base + 2 ^ 31 + (ring_minus x base + 2 ^ 31) % 2 ^ 32
+unfolding wrap ring_minus
+nearest_counted base x small small' =
     sym ((nearest-is (base + 2 ^ 32) x _ (omega arith) (omega arith)).1 (omega arith, omega arith, omega arith))
 
 -- What a pass writes, told from the counts that the ranges compare

@@ -22,10 +22,10 @@ further-wrap B X Y a b c d =
     λ i. record { 0 = (ap wrap e ∙ wrap-turns (max X Y) turns (omega arith)) i }
 
 -- one of the two that stands where the larger does
-pub further-is :
+pub further_is :
     (base a b x : SeqNum) → x.0 < 2 ^ 32 →
     max (nearest (base.0 + 2 ^ 32) a.0) (nearest (base.0 + 2 ^ 32) b.0) ≡ nearest (base.0 + 2 ^ 32) x.0 →
     further base a b ≡ x
 unfolding further
-further-is base a b x fits top =
+further_is base a b x fits top =
     λ i. record { 0 = (ap wrap top ∙ wrap-nearest (base.0 + 2 ^ 32) x.0 (omega arith) fits) i }
