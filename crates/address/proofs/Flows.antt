@@ -1,7 +1,7 @@
 -- The test of equality of addresses and ports decides it.
 use mathlib.Core.Path.{◌≡◌, refl}
-use mathlib.Core.Bool.{true, false, and-false}
-use borrow.Author.Tests.{eq-eqb, ne_eqb, eqb-true}
+use mathlib.Core.Bool.{true}
+use borrow.Author.Tests.{eq-eqb, eqb-true}
 use Rattle.choice.specs.Choice.{◌=ᵇ◌}
 use Rattle.choice.proofs.Tests.{&&-true}
 use Rattle.address.specs.Flows.{same_address, same_endpoint, same_flow}
@@ -40,24 +40,3 @@ same_true j k same =
     let p = endpoint-true _ _ a.0 in
     let q = endpoint-true _ _ a.1 in
     λ i. record { from = p i; to = q i }
-
--- As code asks it: one of four tests fails, or three hold and the fourth decides
-module _ (j k : Flow) where
-  pub differs-by-first-address : same_address j.from.address k.from.address ≡ false → same_flow j k ≡ false
-  unfolding same_flow
-  differs-by-first-address h = rw h
-
-  pub differs-by-second-address : same_address j.to.address k.to.address ≡ false → same_flow j k ≡ false
-  unfolding same_flow
-  differs-by-second-address h = simp (h, and-false)
-
-  pub differs-by-first-port : (j.from.port ≡ k.from.port → ⊥) → same_flow j k ≡ false
-  unfolding same_flow
-  differs-by-first-port h = simp (ne_eqb j.from.port k.from.port h, and-false)
-
-  pub same-by-second-port :
-      same_address j.from.address k.from.address ≡ true → same_address j.to.address k.to.address ≡ true →
-      j.from.port ≡ k.from.port →
-      same_flow j k ≡ (j.to.port =ᵇ k.to.port)
-  unfolding same_flow
-  same-by-second-port a b c = rw (a, b, eq-eqb j.from.port k.from.port c)

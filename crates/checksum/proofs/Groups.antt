@@ -2,9 +2,8 @@
 use Prim.Native.Nat.{ℕ, suc, ◌+◌, ◌*◌, ◌≤◌, ◌<◌}
 use mathlib.Core.Path.{◌≡◌, refl}
 use mathlib.Core.List.{List, [], ◌∷◌}
-use native.Mathlib.Nat.{add-zero}
 use native.Mathlib.Omega.{arith}
-use lib.ListN.{length, drop, drop_of_length-le}
+use lib.ListN.{length, get_or, drop, drop_of_length-le, get_or-eq_default}
 use lib.Seq.{get_or-drop, drop-drop}
 use Rattle.octets.specs.Octets.{Octets}
 use Rattle.octets.specs.LittleEndian.{little_endian}
@@ -14,7 +13,7 @@ use Rattle.checksum.specs.Reduced.{reduced}
 use Rattle.checksum.proofs.Reduced.{ones_plus≡reduced, reduced≤65535, reduced-add, reduced-more}
 
 -- the first group, and those after it
-group_sum-first : (l : List ℕ) → group_sum l ≡ little_endian l 0 + group_sum (drop 4 l)
+pub group_sum-first : (l : List ℕ) → group_sum l ≡ little_endian l 0 + group_sum (drop 4 l)
 unfolding group_sum
 group_sum-first [] = refl
 group_sum-first (a ∷ []) = omega arith
@@ -22,15 +21,25 @@ group_sum-first (a ∷ b ∷ []) = omega arith
 group_sum-first (a ∷ b ∷ c ∷ []) = omega arith
 group_sum-first (a ∷ b ∷ c ∷ d ∷ l) = refl
 
--- the group at an offset, and those after it
-pub group_sum-drop : (l : List ℕ) (at next : ℕ) → next ≡ at + 4 → group_sum (drop at l) ≡ little_endian l at + group_sum (drop next l)
-group_sum-drop l at next is =
-    rw (is, group_sum-first (drop at l), get_or-drop at l 0 0, get_or-drop at l 1 0, get_or-drop at l 2 0, get_or-drop at l 3 0, drop-drop 4 at l, add-zero at)
+-- the first two, and those after them
+pub group_sum-pair : (l : List ℕ) → group_sum l ≡ little_endian l 0 + little_endian l 4 + group_sum (drop 8 l)
+group_sum-pair l =
+    let second : group_sum (drop 4 l) ≡ little_endian l 4 + group_sum (drop 8 l) =
+    rw (group_sum-first (drop 4 l), get_or-drop 4 l 0 0, get_or-drop 4 l 1 0, get_or-drop 4 l 2 0, get_or-drop 4 l 3 0, drop-drop 4 4 l) refl in
+    omega (arith, group_sum-first l)
 
--- past the end there are none
-pub group_sum-past : (l : List ℕ) (at : ℕ) → length l ≤ at → group_sum (drop at l) ≡ 0
+-- the last, where there are under four octets: what is missing is zero
+pub group_sum-last : (l : List ℕ) → length l < 4 → group_sum l ≡ little_endian l 0
 unfolding group_sum
-group_sum-past l at h = rw (drop_of_length-le l h)
+group_sum-last l h =
+    let none : drop 4 l ≡ [] = drop_of_length-le l {i = 4} (omega arith) in
+    rw (group_sum-first l, none) (omega arith)
+
+pub past-end : (l : List ℕ) (i : ℕ) → length l ≤ i → get_or l i 0 ≡ 0
+past-end l i h = get_or-eq_default l 0 h
+
+-- both, for the tactic of last_group
+pub ruleset missing_is_zero = (group_sum-last, past-end)
 
 -- A group's two words, before a sum: in ones' complement its upper half counts as its lower one does.
 group-before :

@@ -38,6 +38,6 @@ unfolding reduced fold
 fold≡reduced s h = omega arith
 
 -- Swapping the octets of every word swaps those of the sum (RFC 1071, section 2).
-pub swapped≡reduced : (s t : ℕ) → t ≡ reduced s → t % 256 * 256 + t / 256 ≡ reduced (256 * s)
+pub swapped≡reduced : (s t : ℕ) → t ≡ reduced s → t % 256 * 256 + t / 256 % 256 ≡ reduced (256 * s)
 unfolding reduced
 swapped≡reduced s t is = omega arith

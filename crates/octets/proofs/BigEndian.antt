@@ -1,7 +1,7 @@
 -- Laws of big-endian numbers: their widths and bounds, and that reading and writing undo each other.
 use Prim.Native.Nat.{ℕ, ◌+◌, ◌*◌, ◌/◌, ◌%◌, ◌^◌, ◌≤◌, ◌<◌}
 use mathlib.Core.Path.{◌≡◌, refl, sym, ap, ◌∙◌}
-use mathlib.Core.List.{List, [], ◌∷◌, ◌++◌}
+use mathlib.Core.List.{List, ◌++◌}
 use native.Mathlib.Omega.{arith}
 use native.Mathlib.Nat.{add-zero, zero-add, add_assoc, div-add-mod', mod-lt, one-le-pow}
 use lib.ListN.{length, get_or, take, drop, replicate}
@@ -10,7 +10,6 @@ use Rattle.octets.specs.Digits.{number, digits}
 use Rattle.octets.specs.BigEndian.{big_endian, octets_of}
 use Rattle.octets.specs.Overwrite.{overwrite}
 use Rattle.octets.proofs.Digits.{length_digits, number-cong, number<base^n, number-add, number_digits, digits-add, digits_number, tabulate-get_or}
-use Rattle.octets.proofs.Overwrite.{overwrite-both}
 use Rattle.octets.proofs.Agree.{Agree, overwrite-agree}
 
 -- Widths
@@ -19,22 +18,12 @@ pub big_endian-2 : (l : List ℕ) (at : ℕ) → big_endian 2 l at ≡ get_or l 
 unfolding big_endian number
 big_endian-2 l at = rw add-zero (omega arith)
 
-pub big_endian-4 :
-    (l : List ℕ) (at : ℕ) →
-    big_endian 4 l at ≡ ((get_or l at 0 * 256 + get_or l (at + 1) 0) * 256 + get_or l (at + 2) 0) * 256 + get_or l (at + 3) 0
-unfolding big_endian number
-big_endian-4 l at = rw add-zero (omega arith)
-
 pub big_endian-add : (m n : ℕ) (l : List ℕ) (at : ℕ) → big_endian (m + n) l at ≡ big_endian m l at * 256 ^ n + big_endian n l (at + m)
 unfolding big_endian
 big_endian-add m n l at =
     number-add 256 (λ i. get_or l (at + i) 0) m n
     ∙ ap (λ (k : ℕ). number 256 (λ i. get_or l (at + i) 0) m * 256 ^ n + k)
     (number-cong 256 (λ i. get_or l (at + (m + i)) 0) (λ i. get_or l (at + m + i) 0) n (λ i h. rw add_assoc))
-
-pub octets_of-2 : (v : ℕ) → v < 65536 → octets_of 2 v ≡ v / 256 ∷ v % 256 ∷ []
-unfolding octets_of digits
-octets_of-2 v small = let e : v / 256 % 256 ≡ v / 256 = omega arith in rw e
 
 pub octets_of-add : (m n v : ℕ) → octets_of (m + n) v ≡ octets_of m (v / 256 ^ n) ++ octets_of n (v % 256 ^ n)
 unfolding octets_of
@@ -57,15 +46,6 @@ unfolding big_endian
 big_endian-agree l at m there n same = number-cong 256 (λ i. get_or l (at + i) 0) (λ i. get_or m (there + i) 0) n same
 
 -- Reading and writing
-
--- two writes of half the width are one of the whole
-pub overwrite-halves :
-    (n v : ℕ) (l half whole : List ℕ) (at : ℕ) → at + n ≤ length l → half ≡ overwrite l at (octets_of n (v / 256 ^ n)) →
-    whole ≡ overwrite half (at + n) (octets_of n (v % 256 ^ n)) →
-    whole ≡ overwrite l at (octets_of (n + n) v)
-overwrite-halves n v l half whole at fits first second =
-    overwrite-both l at (octets_of n (v / 256 ^ n)) (octets_of n (v % 256 ^ n)) first second (length-octets_of n (v / 256 ^ n)) refl fits
-    ∙ ap (overwrite l at) (sym (octets_of-add n n v))
 
 -- two numbers 0 are 16 zeros
 pub octets_of-0-0 : octets_of 8 0 ++ octets_of 8 0 ≡ replicate 16 0

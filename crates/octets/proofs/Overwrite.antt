@@ -1,12 +1,12 @@
 -- Laws of writing over a part of a list.
 use Prim.Native.Nat.{ℕ, suc, ◌+◌, ◌-◌, ◌≤◌, ◌<◌}
 use mathlib.Core.Path.{◌≡◌, refl, sym, ap, ◌∙◌}
-use mathlib.Core.List.{List, [], ◌∷◌, ◌++◌, append_assoc}
+use mathlib.Core.List.{List, [], ◌∷◌, ◌++◌, append_assoc, append-nil}
 use native.Mathlib.Omega.{arith}
 use native.Mathlib.Nat.{add-zero, zero-add}
 use native.Mathlib.Numerals.{add-one}
 use lib.ListN.{length, get_or, take, drop, set, length-append, length-drop, take-append-drop}
-use lib.Seq.{get_or-take, get_or-drop, length-take-le, take_at, drop_at, drop-drop, set_split, take-set-le, take-suc, take-add, take-append_seam}
+use lib.Seq.{get_or-take, get_or-drop, length-take-le, take_at, drop_at, drop-drop, drop-length, set_split, take-set-le, take-suc, take-add, take-append_seam}
 use Rattle.octets.specs.Digits.{tabulate}
 use Rattle.octets.specs.Overwrite.{overwrite}
 use Rattle.octets.proofs.Digits.{length-tabulate}
@@ -14,6 +14,16 @@ use Rattle.octets.proofs.Digits.{length-tabulate}
 pub overwrite-nothing : (l : List ℕ) (at : ℕ) → overwrite l at [] ≡ l
 unfolding overwrite
 overwrite-nothing l at = rw add-zero (take-append-drop at l)
+
+-- all of it
+pub overwrite-all : (l vs : List ℕ) → length vs ≡ length l → overwrite l 0 vs ≡ vs
+unfolding overwrite
+overwrite-all l vs size = rw (zero-add, size, drop-length, append-nil)
+
+-- a part that was lent, and came back as vs
+pub part≡overwrite : (l : List ℕ) (at n : ℕ) (vs : List ℕ) → length vs ≡ n → take at l ++ (vs ++ drop n (drop at l)) ≡ overwrite l at vs
+unfolding overwrite
+part≡overwrite l at n vs size = rw (size, drop-drop n at l)
 
 -- one store
 pub set≡overwrite : (l : List ℕ) (at v : ℕ) → at < length l → set l at v ≡ overwrite l at (v ∷ [])

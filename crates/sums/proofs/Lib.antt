@@ -1,2 +1,1 @@
 pub mod WordSum
-pub mod Sums

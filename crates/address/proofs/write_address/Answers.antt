@@ -13,11 +13,11 @@ pub returns-in-V4 : goal.returns-in-V4
 returns-in-V4 c =
     let a = c.args in
     let octets = sym (octets_of-rest a.address.low) ∙ ap (λ (v : Version). address_octets v a.address) (sym c.in-V4.is) in
-    c.write32.ensures ∙ ap (overwrite a.s.now a.at) octets
+    c.write_be.ensures ∙ ap (overwrite a.s.now a.at) octets
 
 pub returns-in-V6 : goal.returns-in-V6
 returns-in-V6 c =
     let a = c.args in
     let is = c.in-V6.is in
-    overwrite-both _ _ _ _ c.write64.ensures c.write64-in-V6.ensures (length-octets_of 8 _) refl (omega (arith, ap address_size is))
+    overwrite-both _ _ _ _ c.write_be-in-V6.ensures c.write_be-in-V6-2.ensures (length-octets_of 8 _) refl (omega (arith, ap address_size is))
     ∙ ap (λ (v : Version). overwrite a.s.now a.at (address_octets v a.address)) (sym is)

@@ -10,7 +10,7 @@ thrice-reduced : (c : goal.After-folded) → c.folded.result ≡ reduced c.args.
 thrice-reduced c =
     let sum = c.args.sum in
     let once : fold sum < 1073807360 = fold-below sum 1073741824 (omega arith) in
-    let second : c.folded-twice.result ≡ fold (fold sum) = c.folded-twice.ensures ∙ ap fold c.folded-once.ensures in
+    let second : c.folded-twice.result ≡ fold (fold sum) = grind arith in
     let twice : fold (fold sum) < 81921 = fold-below (fold sum) 16385 once in
     c.folded.ensures ∙ ap fold second ∙ fold≡reduced (fold (fold sum)) (omega arith) ∙ reduced-fold (fold sum) ∙ reduced-fold sum
 

@@ -6,6 +6,6 @@ use Rattle.checksum.proofs.ones_sum.Goals as goal
 
 pub returns : goal.returns
 returns c =
-    c.swapped16.ensures
+    c.swap_bytes.ensures
     ∙ swapped≡reduced c.group_sum.result c.carries_added.result c.carries_added.ensures
     ∙ rw c.group_sum.ensures.0 (sym (ones_sum≡reduced-groups c.args.s.now λ i. (c.type_inv.s i).fits))

@@ -1,16 +1,18 @@
--- What is left to add: the words from an offset on.
-use Prim.Native.Nat.{◌+◌, ◌-◌, ◌*◌, ◌≤◌}
+-- What is left to add: the words that are still to come, at the end of the octets, and an odd octet.
+use Prim.Native.Nat.{◌+◌, ◌-◌, ◌*◌, ◌%◌, ◌≤◌}
 use mathlib.Core.Path.{◌≡◌}
 use lib.ListN.{length, drop}
+use Rattle.std.specs.Slice.Iter.{chunks_exact_rest, chunks_exact_size}
 use Rattle.sums.specs.Sums.{word_sum}
 use Rattle.sums.proofs.word_sum.Given as goal
 
-abbrev pub invariant-loop-at : goal.invariant-loop-at
-invariant-loop-at l = record {
-  within : l.at ≤ length l.s;
-  small : l.sum ≤ 32768 * l.at;
-  rest : l.sum + word_sum (drop l.at l.s) ≡ word_sum l.s;
-}
-
-abbrev pub decreases-loop-at : goal.decreases-loop-at
-decreases-loop-at l = length l.s - l.at
+abbrev pub invariant-loop-word : goal.invariant-loop-word
+invariant-loop-word l =
+    let rest = chunks_exact_rest l.word-iterator in
+    record {
+      size : chunks_exact_size l.word-iterator ≡ 2;
+      there : rest ≡ drop (length l.s - length rest) l.s;
+      even : length rest % 2 ≡ length l.s % 2;
+      small : l.sum + 32768 * length rest ≤ 32768 * length l.s;
+      total : l.sum + word_sum rest ≡ word_sum l.s;
+    }
