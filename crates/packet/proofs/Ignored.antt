@@ -6,6 +6,7 @@ use native.Mathlib.Omega.{arith}
 use lib.ListN.{length, get_or, take, drop, length-append, length-drop, get_or-append}
 use lib.Seq.{take-append-le, drop-append-le}
 use borrow.Author.Tests.{le-ltb, ltb-false}
+use Rattle.std.specs.Prelude.{Ok, Err}
 use Rattle.choice.specs.Choice.{◌<ᵇ◌}
 use Rattle.choice.proofs.Choice.{when-else-past}
 use Rattle.octets.specs.BigEndian.{big_endian}
@@ -16,10 +17,8 @@ use Rattle.address.specs.declared.Version.TheVariants.{V4}
 use Rattle.address.proofs.Laws.{address_at-agree}
 use Rattle.packet.specs.Header.{header_length, total_length}
 use Rattle.packet.specs.TcpSum.{segment_octets, tcp_sum}
-use Rattle.packet.specs.Read.{ipv4_addresses, ipv4_header, tcp_rows, on_header, rows6to8}
+use Rattle.packet.specs.Read.{IpRead, ipv4_addresses, ipv4_header, tcp_rows, on_header, rows6to8}
 use Rattle.packet.specs.Ignored.{PastTotalIgnored}
-use Rattle.packet.specs.declared.IpRead.{IpRead}
-use Rattle.packet.specs.declared.IpRead.TheVariants.{BadHeader, CarriesTcp}
 use Rattle.packet.proofs.Readable.{ipv4-carries}
 
 module _ (p past : List ℕ) where
@@ -64,10 +63,10 @@ module _ (p past : List ℕ) where
 
     -- what the IP header carries ends in the packet
     on_header-unchanged :
-        (r : IpRead) → ((h t : ℕ) → r ≡ CarriesTcp h t → t ≤ length p) →
+        (r : IpRead) → ((h t : ℕ) → r ≡ Ok (h, t) → t ≤ length p) →
         on_header v addresses (p ++ past) r ≡ on_header v addresses p r
-    on_header-unchanged (BadHeader cause offset) ends = refl
-    on_header-unchanged (CarriesTcp h t) ends = tcp_rows-unchanged h t (ends h t refl)
+    on_header-unchanged (Err e) ends = refl
+    on_header-unchanged (Ok (h, t)) ends = tcp_rows-unchanged h t (ends h t refl)
 
   -- Rows 5 to 8, of IPv4
 

@@ -6,28 +6,23 @@ use mathlib.Core.List.{List}
 use native.Mathlib.Omega.{arith}
 use lib.ListN.{length}
 use borrow.Author.Tests.{ltb-false}
+use Rattle.std.specs.Prelude.{Result, Ok, Err, ⊤}
 use Rattle.choice.proofs.Choice.{when-either, when-cases}
 use Rattle.address.specs.declared.Version.{Version}
 use Rattle.packet.specs.Header.{header_length, total_length, control_bits}
-use Rattle.packet.specs.Read.{rows6to8, ipv4_header, payload, row10, on_flags, tcp_rows, on_header}
+use Rattle.packet.specs.Read.{IpRead, PacketRead, refused_at, rows6to8, ipv4_header, payload, row10, on_flags, tcp_rows, on_header}
 use Rattle.packet.specs.Reader.{PointsInto}
 use Rattle.packet.specs.declared.Cause.{Cause}
-use Rattle.packet.specs.declared.FlagCheck.{FlagCheck}
-use Rattle.packet.specs.declared.FlagCheck.TheVariants.{BadFlags, Fine}
-use Rattle.packet.specs.declared.IpRead.{IpRead}
-use Rattle.packet.specs.declared.IpRead.TheVariants.{BadHeader, CarriesTcp}
-use Rattle.packet.specs.declared.PacketRead.{PacketRead}
-use Rattle.packet.specs.declared.PacketRead.TheVariants.{Refused, Tcp}
 use Rattle.packet.proofs.Flags.{flags-offset}
 
 -- what an IP header carries begins within 60 bytes and ends in the packet
 abbrev pub HeaderPoints : List ℕ → IpRead → Type 0
-HeaderPoints p (BadHeader cause offset) = PointsInto p cause offset
-HeaderPoints p (CarriesTcp h t) = (h ≤ 60) × (h ≤ t) × (t ≤ length p)
+HeaderPoints p (Err e) = PointsInto p e.cause e.offset
+HeaderPoints p (Ok (h, t)) = (h ≤ 60) × (h ≤ t) × (t ≤ length p)
 
 abbrev ReadPoints : List ℕ → PacketRead → Type 0
-ReadPoints p (Refused cause offset) = PointsInto p cause offset
-ReadPoints p (Tcp k g) = Unit {0}
+ReadPoints p (Err e) = PointsInto p e.cause e.offset
+ReadPoints p (Ok _) = Unit {0}
 
 inside : {p : List ℕ} {cause : Cause} {offset : ℕ} → offset < length p → offset < 120 → PointsInto p cause offset
 inside given below = record { given = inl given; below_120 = below }
@@ -36,12 +31,12 @@ inside given below = record { given = inl given; below_120 = below }
 
 module _ (v : Version) (addresses : ℕ) (p : List ℕ) (h t : ℕ) (short : h ≤ 60) (behind : h ≤ t) (given : t ≤ length p) where
   flags-point :
-      (read : PacketRead) (check : FlagCheck) → row10 (control_bits p h) (payload p h t) ≡ check → 20 ≤ t - h → ReadPoints p read →
+      (read : PacketRead) (check : Result ⊤ Cause) → row10 (control_bits p h) (payload p h t) ≡ check → 20 ≤ t - h → ReadPoints p read →
       ReadPoints p (on_flags h check read)
-  flags-point read (BadFlags cause) bad room points =
+  flags-point read (Err cause) bad room points =
       let at = flags-offset h (control_bits p h) (payload p h t) cause bad in
       inside (omega (arith, at)) (omega (arith, at))
-  flags-point read Fine fine room points = points
+  flags-point read (Ok _) fine room points = points
 
   tcp_rows-point : ReadPoints p (tcp_rows v addresses p h t)
   unfolding tcp_rows
@@ -55,9 +50,9 @@ module _ (v : Version) (addresses : ℕ) (p : List ℕ) (h t : ℕ) (short : h �
 
 pub header-points :
     (v : Version) (addresses : ℕ) (p : List ℕ) (r : IpRead) → HeaderPoints p r →
-    (cause : Cause) (offset : ℕ) → on_header v addresses p r ≡ Refused cause offset → PointsInto p cause offset
-header-points v addresses p (BadHeader cause' offset') points cause offset e = subst (ReadPoints p) e points
-header-points v addresses p (CarriesTcp h t) points cause offset e =
+    (cause : Cause) (offset : ℕ) → on_header v addresses p r ≡ refused_at cause offset → PointsInto p cause offset
+header-points v addresses p (Err refused) points cause offset e = subst (ReadPoints p) e points
+header-points v addresses p (Ok (h, t)) points cause offset e =
     subst (ReadPoints p) e (tcp_rows-point v addresses p h t points.0 points.1 points.2)
 
 -- Rows 5 to 8, of IPv4

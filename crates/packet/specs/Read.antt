@@ -2,9 +2,9 @@
 -- with the byte offset that document 02, items 2 and 5, gives it; or the flow and the segment.
 -- The IP version decides rows 5 to 8 and where the addresses stand; rows 9, 16 and 10 are TCP's, and the same for every version.
 -- p is the packet's bytes, h its IP header's length, t its total length.
-use Rattle.std.specs.Prelude.{ℕ, ◌+◌, ◌-◌, ◌^◌, ◌≤◌, ◌<◌, ◌&&◌, ◌||◌, not, List, length, take}
+use Rattle.std.specs.Prelude.{ℕ, ◌+◌, ◌-◌, ◌&&◌, ◌||◌, not, List, length, take, Result, Ok, Err, ⊤}
 use Rattle.choice.specs.Choice.{when◌then◌else◌, ◌<ᵇ◌, ◌=ᵇ◌, ◌≠ᵇ◌}
-use Rattle.address.specs.Address.{address_size, flow_at}
+use Rattle.address.specs.Address.{flow_at}
 use Rattle.address.specs.declared.Flow.{Flow}
 use Rattle.address.specs.declared.Version.{Version}
 use Rattle.address.specs.declared.Version.TheVariants.{V4}
@@ -15,12 +15,15 @@ use Rattle.packet.specs.TcpSum.{tcp_sum}
 use Rattle.checksum.specs.Sum.{ones_sum}
 use Rattle.packet.specs.declared.Cause.{Cause}
 use Rattle.packet.specs.declared.Cause.TheVariants.{Short, OtherVersion, HeaderLength, TotalBelowHeader, TotalAboveGiven, HeaderSum, Fragment, Protocol, TcpShort, DataOffsetBelowFive, DataOffsetPastTotal, TcpSum, SynFinRst, NoSynAckRst, SynPayload}
-use Rattle.packet.specs.declared.FlagCheck.{FlagCheck}
-use Rattle.packet.specs.declared.FlagCheck.TheVariants.{BadFlags, Fine}
-use Rattle.packet.specs.declared.IpRead.{IpRead}
-use Rattle.packet.specs.declared.IpRead.TheVariants.{BadHeader, CarriesTcp}
-use Rattle.packet.specs.declared.PacketRead.{PacketRead}
-use Rattle.packet.specs.declared.PacketRead.TheVariants.{Refused, Tcp}
+use Rattle.packet.specs.declared.PacketError.{PacketError}
+
+-- what an IP header says: where TCP's header begins and where the packet ends, or a refusal
+abbrev pub IpRead : Type 0
+IpRead = Result (ℕ × ℕ) PacketError
+
+-- what reading a packet gives: the flow and the segment, or a refusal
+abbrev pub PacketRead : Type 0
+PacketRead = Result (Flow × Segment) PacketError
 
 -- Causes
 
@@ -66,12 +69,12 @@ cause_offset h SynFinRst = h + 13
 cause_offset h NoSynAckRst = h + 13
 cause_offset h SynPayload = h + 13
 
--- a refusal has its cause and its offset: by the IP header, and of the packet
-abbrev pub header_refusal : ℕ → Cause → IpRead
-header_refusal h cause = BadHeader cause (cause_offset h cause)
+-- a refusal, by the IP header or of the packet, has its cause and its offset
+abbrev pub refused_at : {A : Type 0} → Cause → ℕ → Result A PacketError
+refused_at cause offset = Err (record { cause = cause; offset = offset })
 
-abbrev pub refusal : ℕ → Cause → PacketRead
-refusal h cause = Refused cause (cause_offset h cause)
+abbrev pub refusal : {A : Type 0} → ℕ → Cause → Result A PacketError
+refusal h cause = refused_at cause (cause_offset h cause)
 
 -- Each list: the first line that applies wins
 
@@ -80,23 +83,23 @@ refusal h cause = Refused cause (cause_offset h cause)
 unfoldable pub rows6to8 : List ℕ → ℕ → ℕ → IpRead
 rows6to8 p h t =
     -- 6: the header's ones' complement 16-bit sum is not ffff
-    when ones_sum (take h p) ≠ᵇ 0xffff then header_refusal h HeaderSum
+    when ones_sum (take h p) ≠ᵇ 0xffff then refusal h HeaderSum
     -- 7: more-fragments set or fragment offset not 0
-    else when (more_fragments p =ᵇ 1) || (fragment_offset p ≠ᵇ 0) then header_refusal h Fragment
+    else when (more_fragments p =ᵇ 1) || (fragment_offset p ≠ᵇ 0) then refusal h Fragment
     -- 8: protocol is not 6
-    else when protocol p ≠ᵇ 6 then header_refusal h Protocol
-    else CarriesTcp h t
+    else when protocol p ≠ᵇ 6 then refusal h Protocol
+    else Ok (h, t)
 
 unfoldable pub ipv4_header : List ℕ → IpRead
 ipv4_header p =
     let h : ℕ = header_length p in
     let t : ℕ = total_length p in
     -- 5: under 20 bytes; version not 4; header length under 20; total length below header length or above the bytes given
-    when length p <ᵇ 20 then header_refusal h Short
-    else when version p ≠ᵇ 4 then header_refusal h OtherVersion
-    else when h <ᵇ 20 then header_refusal h HeaderLength
-    else when t <ᵇ h then header_refusal h TotalBelowHeader
-    else when length p <ᵇ t then header_refusal h TotalAboveGiven
+    when length p <ᵇ 20 then refusal h Short
+    else when version p ≠ᵇ 4 then refusal h OtherVersion
+    else when h <ᵇ 20 then refusal h HeaderLength
+    else when t <ᵇ h then refusal h TotalBelowHeader
+    else when length p <ᵇ t then refusal h TotalAboveGiven
     else rows6to8 p h t
 
 -- where its source address begins; the destination's follows it
@@ -119,17 +122,17 @@ segment_of p h t = record {
 }
 
 -- 10, of the flags f and n payload octets
-unfoldable pub row10 : ℕ → ℕ → FlagCheck
+unfoldable pub row10 : ℕ → ℕ → Result ⊤ Cause
 row10 f n =
     -- 10: SYN with FIN or RST; none of SYN, ACK, RST; SYN with payload
-    when (syn f =ᵇ 1) && ((fin f =ᵇ 1) || (rst f =ᵇ 1)) then BadFlags SynFinRst
-    else when not ((syn f =ᵇ 1) || ((ack f =ᵇ 1) || (rst f =ᵇ 1))) then BadFlags NoSynAckRst
-    else when (syn f =ᵇ 1) && (n ≠ᵇ 0) then BadFlags SynPayload
-    else Fine
+    when (syn f =ᵇ 1) && ((fin f =ᵇ 1) || (rst f =ᵇ 1)) then Err SynFinRst
+    else when not ((syn f =ᵇ 1) || ((ack f =ᵇ 1) || (rst f =ᵇ 1))) then Err NoSynAckRst
+    else when (syn f =ᵇ 1) && (n ≠ᵇ 0) then Err SynPayload
+    else Ok tt
 
-abbrev pub on_flags : ℕ → FlagCheck → PacketRead → PacketRead
-on_flags h (BadFlags cause) read = refusal h cause
-on_flags h Fine read = read
+abbrev pub on_flags : ℕ → Result ⊤ Cause → PacketRead → PacketRead
+on_flags h (Err cause) read = refusal h cause
+on_flags h (Ok _) read = read
 
 -- 9, 16 and 10, or the flow, by where the version has its addresses, and the segment
 unfoldable pub tcp_rows : Version → ℕ → List ℕ → ℕ → ℕ → PacketRead
@@ -141,24 +144,18 @@ tcp_rows v addresses p h t =
     else when t - h <ᵇ data_offset p h then refusal h DataOffsetPastTotal
     -- 16: the whole sum, with the pseudo-header, isn't ffff (document 02, item 5: "after 9 and before 10")
     else when tcp_sum v k p h t ≠ᵇ 0xffff then refusal h TcpSum
-    else on_flags h (row10 (control_bits p h) (payload p h t)) (Tcp k (segment_of p h t))
+    else on_flags h (row10 (control_bits p h) (payload p h t)) (Ok (k, segment_of p h t))
 
 -- The whole: what the IP header refuses, and then what TCP's does
 
 abbrev pub on_header : Version → ℕ → List ℕ → IpRead → PacketRead
-on_header v addresses p (BadHeader cause offset) = Refused cause offset
-on_header v addresses p (CarriesTcp h t) = tcp_rows v addresses p h t
+on_header v addresses p (Err e) = Err e
+on_header v addresses p (Ok (h, t)) = tcp_rows v addresses p h t
 
 abbrev pub read_ipv4 : List ℕ → PacketRead
 read_ipv4 p = on_header V4 ipv4_addresses p (ipv4_header p)
 
--- what is carried lies behind the addresses and in the packet, with at most 65,535 octets after the IP header
-abbrev pub Inside : Version → ℕ → List ℕ → IpRead → Type 0
-Inside v addresses p (BadHeader cause offset) = Unit {0}
-Inside v addresses p (CarriesTcp h t) =
-    (addresses + address_size v + address_size v ≤ h) × (h ≤ t) × (t ≤ length p) × (t - h < 2 ^ 16)
-
 -- the documents' answer and offset of a refusal; 0 and 0 where there is none
 abbrev pub answer_and_offset : PacketRead → ℕ × ℕ
-answer_and_offset (Refused cause offset) = (cause_number cause, offset)
-answer_and_offset (Tcp k g) = (0, 0)
+answer_and_offset (Err e) = (cause_number e.cause, e.offset)
+answer_and_offset (Ok _) = (0, 0)
