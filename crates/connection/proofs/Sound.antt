@@ -1,12 +1,13 @@
 -- Laws of a sound connection: what soundness says, fact by fact, and that the stage and the FIN bits that a pass leaves are sound.
-use Prim.Native.Nat.{ℕ, zero, suc, ◌+◌, ◌<◌, ◌≤◌, max}
+use Prim.Native.Nat.{ℕ, ◌+◌, ◌<◌, ◌≤◌, max}
 use mathlib.Core.Path.{◌≡◌, refl, sym, ◌∙◌}
 use mathlib.Core.Logic.{⊎_elim}
 use mathlib.Core.Bool.{true, ◌&&◌}
 use native.Mathlib.Omega.{arith}
+use Rattle.std.proofs.lemmas.Bool.Decides.{nat_tests}
 use borrow.Author.Tests.{le-leb, leb-true, eqb-true}
-use Rattle.choice.specs.Choice.{when◌then◌else◌, ◌≤ᵇ◌, ◌=ᵇ◌}
-use Rattle.choice.proofs.Choice.{when-either, when-=, when-=-not, when-≤, when-≤-not}
+use Rattle.choice.specs.Choice.{◌≤ᵇ◌, ◌=ᵇ◌}
+use Rattle.choice.proofs.Choice.{when-either, when_cond}
 use Rattle.choice.proofs.Tests.{lt-or-ge, &&-true}
 use Rattle.serial.specs.Ring.{ring_minus}
 use Rattle.serial.specs.Serial.{seq_minus}
@@ -21,26 +22,19 @@ use Rattle.connection.specs.declared.End.{End}
 
 pub sound_fins-to-3 : (stage fins : ℕ) → stage ≤ 3 → sound_fins stage fins ≡ (fins =ᵇ 0)
 unfolding sound_fins
-sound_fins-to-3 stage fins h = when-≤ _ _ h
+sound_fins-to-3 stage fins h = simp when_cond (grind (arith, nat_tests))
 
 pub sound_fins-in-4 : (stage fins : ℕ) → stage ≡ 4 → sound_fins stage fins ≡ (1 ≤ᵇ fins) && (fins ≤ᵇ 2)
 unfolding sound_fins
-sound_fins-in-4 stage fins h = let above : 3 < stage = omega arith in when-≤-not _ _ above ∙ when-= _ _ h
+sound_fins-in-4 stage fins h = simp when_cond (grind (arith, nat_tests))
 
 pub sound_fins-in-5 : (stage fins : ℕ) → stage ≡ 5 → sound_fins stage fins ≡ (fins =ᵇ 3)
 unfolding sound_fins
-sound_fins-in-5 stage fins h =
-    let above : 3 < stage = omega arith in
-    let not-4 : stage ≡ 4 → ⊥ = λ e. omega (arith, e) in
-    when-≤-not _ _ above ∙ when-=-not _ _ not-4 ∙ when-= _ _ h
+sound_fins-in-5 stage fins h = simp when_cond (grind (arith, nat_tests))
 
 pub sound_fins-from-6 : (stage fins : ℕ) → 6 ≤ stage → sound_fins stage fins ≡ (fins ≤ᵇ 3)
 unfolding sound_fins
-sound_fins-from-6 stage fins h =
-    let above : 3 < stage = omega arith in
-    let not-4 : stage ≡ 4 → ⊥ = λ e. omega (arith, e) in
-    let not-5 : stage ≡ 5 → ⊥ = λ e. omega (arith, e) in
-    when-≤-not _ _ above ∙ when-=-not _ _ not-4 ∙ when-=-not _ _ not-5
+sound_fins-from-6 stage fins h = simp when_cond (grind (arith, nat_tests))
 
 -- the FIN bits that a stage allows, case by case
 pub data Fins (stage fins : ℕ) : Type 0 where
@@ -68,21 +62,12 @@ sound_fins-true stage fins e =
     (lt-or-ge stage 4)
 
 pub sound_fins≤3 : (stage fins : ℕ) → sound_fins stage fins ≡ true → fins ≤ 3
-sound_fins≤3 stage fins sound = go (sound_fins-true stage fins sound)
-  where
-    go : Fins stage fins → fins ≤ 3
-    go (to-3 _ none) = omega arith
-    go (in_4 _ _ most) = omega arith
-    go (in_5 _ both) = omega arith
-    go (from-6 _ most) = most
+unfolding sound_fins
+sound_fins≤3 stage fins sound = let cases = simp when_cond at sound in grind (arith, nat_tests)
 
 with_fin≤3 : (fins i : ℕ) → fins ≤ 3 → with_fin fins i ≤ 3
-unfolding with_fin when◌then◌else◌
-with_fin≤3 zero i small = when-either (λ n. n ≤ 3) (i =ᵇ 0) _ _ (omega arith) (omega arith)
-with_fin≤3 (suc zero) i small = when-either (λ n. n ≤ 3) (i =ᵇ 0) _ _ (omega arith) (omega arith)
-with_fin≤3 (suc (suc zero)) i small = when-either (λ n. n ≤ 3) (i =ᵇ 0) _ _ (omega arith) (omega arith)
-with_fin≤3 (suc (suc (suc zero))) i small = when-either (λ n. n ≤ 3) (i =ᵇ 0) _ _ (omega arith) (omega arith)
-with_fin≤3 (suc (suc (suc (suc fins)))) i small = absurd (omega arith)
+unfolding with_fin
+with_fin≤3 fins i small = simp when_cond (grind (arith, nat_tests))
 
 pub fins_after≤3 : (fins i f : ℕ) → fins ≤ 3 → fins_after fins i f ≤ 3
 unfolding fins_after
@@ -94,23 +79,13 @@ pub record SoundStage (stage fins : ℕ) : Type 0 where
   pub most : stage ≤ 6
   pub bits : sound_fins stage fins ≡ true
 
-sound_stage-to-3 : (stage : ℕ) → 1 ≤ stage → stage ≤ 3 → SoundStage stage 0
-sound_stage-to-3 stage low high = record { some = low; most = omega arith; bits = sound_fins-to-3 stage 0 high }
-
-open_stage-sound : (stage i f : ℕ) → SoundStage (open_stage stage i f) 0
-unfolding open_stage
-open_stage-sound stage i f =
-    let three = sound_stage-to-3 3 (omega arith) (omega arith) in
-    let two = sound_stage-to-3 2 (omega arith) (omega arith) in
-    when-either (λ s. SoundStage s 0) _ _ _ three (when-either (λ s. SoundStage s 0) _ _ _ three two)
-
 pub stage_after-sound : (stage fins i f : ℕ) → fins ≤ 3 → SoundStage (stage_after stage fins i f) fins
-unfolding stage_after sound_fins when◌then◌else◌
-stage_after-sound stage zero i f small = open_stage-sound stage i f
-stage_after-sound stage (suc zero) i f small = record { some = omega arith; most = omega arith; bits = refl }
-stage_after-sound stage (suc (suc zero)) i f small = record { some = omega arith; most = omega arith; bits = refl }
-stage_after-sound stage (suc (suc (suc zero))) i f small = record { some = omega arith; most = omega arith; bits = refl }
-stage_after-sound stage (suc (suc (suc (suc fins)))) i f small = absurd (omega arith)
+unfolding stage_after open_stage sound_fins
+stage_after-sound stage fins i f small = record {
+  some = simp when_cond (grind (arith, nat_tests));
+  most = simp when_cond (grind (arith, nat_tests));
+  bits = simp when_cond (grind (arith, nat_tests));
+}
 
 -- a reset leaves the FIN bits of any stage
 pub reset-sound : (fins : ℕ) → fins ≤ 3 → SoundStage 6 fins
@@ -120,14 +95,11 @@ reset-sound fins small = record { some = omega arith; most = omega arith; bits =
 
 pub sound_end-true : (e : End) → sound_end e ≡ true → (1 ≤ e.win.0) × (e.win.0 ≤ widest) × ((seq_minus e.edge e.end).0 ≤ widest)
 unfolding sound_end
-sound_end-true e h =
-    let p = &&-true (1 ≤ᵇ e.win.0) _ h in
-    let q = &&-true (e.win.0 ≤ᵇ widest) _ p.1 in
-    (leb-true 1 _ p.0, leb-true _ widest q.0, leb-true _ widest q.1)
+sound_end-true e sound = grind (arith, nat_tests)
 
 pub true-sound_end : (e : End) → 1 ≤ e.win.0 → e.win.0 ≤ widest → (seq_minus e.edge e.end).0 ≤ widest → sound_end e ≡ true
 unfolding sound_end
-true-sound_end e some most near = rw (le-leb 1 e.win.0 some, le-leb e.win.0 widest most, le-leb (seq_minus e.edge e.end).0 widest near)
+true-sound_end e some most near = grind (arith, nat_tests)
 
 -- a larger window
 pub widened-sound :
@@ -143,12 +115,7 @@ unheard-sound = refl
 
 pub life_of≤ : (stage : ℕ) → life_of stage ≤ longest_life
 unfolding life_of
-life_of≤ stage =
-    when-either (λ n. n ≤ longest_life) _ _ _ (omega arith)
-    (when-either (λ n. n ≤ longest_life) _ _ _ (omega arith)
-    (when-either (λ n. n ≤ longest_life) _ _ _ (omega arith)
-    (when-either (λ n. n ≤ longest_life) _ _ _ (omega arith)
-    (when-either (λ n. n ≤ longest_life) _ _ _ (omega arith) (omega arith)))))
+life_of≤ stage = simp when_cond (grind (arith, nat_tests))
 
 -- what soundness says, fact by fact
 pub record Facts (clock : ℕ) (c : Connection) : Type 0 where
@@ -163,50 +130,22 @@ pub record Facts (clock : ℕ) (c : Connection) : Type 0 where
 
 pub sound-facts : (clock : ℕ) (c : Connection) → sound_connection clock c ≡ true → Facts clock c
 unfolding sound_connection
-sound-facts clock c sound =
-    let a1 = &&-true (1 ≤ᵇ c.stage) _ sound in
-    let a2 = &&-true (c.stage ≤ᵇ 6) _ a1.1 in
-    let a3 = &&-true (c.side ≤ᵇ 1) _ a2.1 in
-    let a4 = &&-true (sound_fins c.stage c.fins) _ a3.1 in
-    let a5 = &&-true (c.deadline ≤ᵇ clock + longest_life) _ a4.1 in
-    let a6 = &&-true (sound_end (sender c.ends 0)) _ a5.1 in
-    let a7 = &&-true (sound_end (sender c.ends 1)) _ a6.1 in
-    record {
-      stage-some = leb-true 1 c.stage a1.0;
-      stage-most = leb-true c.stage 6 a2.0;
-      side = leb-true c.side 1 a3.0;
-      fins = a4.0;
-      deadline = leb-true c.deadline (clock + longest_life) a5.0;
-      opener = a6.0;
-      answerer = a7.0;
-      unanswered = a7.1;
-    }
+sound-facts clock c sound = record {
+  stage-some = grind (arith, nat_tests);
+  stage-most = grind (arith, nat_tests);
+  side = grind (arith, nat_tests);
+  fins = grind (arith, nat_tests);
+  deadline = grind (arith, nat_tests);
+  opener = grind (arith, nat_tests);
+  answerer = grind (arith, nat_tests);
+  unanswered = grind (arith, nat_tests);
+}
 
 pub facts-sound : (clock : ℕ) (c : Connection) → Facts clock c → sound_connection clock c ≡ true
 unfolding sound_connection
-facts-sound clock c f =
-    rw (
-      le-leb 1 c.stage f.stage-some,
-      le-leb c.stage 6 f.stage-most,
-      le-leb c.side 1 f.side,
-      f.fins,
-      le-leb c.deadline (clock + longest_life) f.deadline,
-      f.opener,
-      f.answerer,
-    )
-    f.unanswered
+facts-sound clock c f = grind (arith, nat_tests)
 
 -- by a later clock, as the header's only rises
 pub later-sound : (clock now : ℕ) (c : Connection) → clock ≤ now → sound_connection clock c ≡ true → sound_connection now c ≡ true
-later-sound clock now c later sound =
-    let f = sound-facts clock c sound in
-    facts-sound now c record {
-      stage-some = f.stage-some;
-      stage-most = f.stage-most;
-      side = f.side;
-      fins = f.fins;
-      deadline = omega (arith, f.deadline);
-      opener = f.opener;
-      answerer = f.answerer;
-      unanswered = f.unanswered;
-    }
+unfolding sound_connection
+later-sound clock now c later sound = grind (arith, nat_tests)

@@ -1,5 +1,5 @@
 -- The decision on a matched connection (document 01, rows 13 to 15 and 0) and the connection that a pass leaves.
-use Rattle.std.specs.Prelude.{ℕ, ◌+◌, Bool, ◌&&◌, ◌||◌, not, [], ◌∷◌, set}
+use Rattle.std.specs.Prelude.{ℕ, ◌+◌, Bool, ◌&&◌, ◌||◌, not, [], ◌∷◌, set, Result, Ok, Err}
 use Rattle.choice.specs.Choice.{when◌then◌else◌, ◌≤ᵇ◌, ◌=ᵇ◌, ◌≠ᵇ◌}
 use Rattle.serial.specs.Serial.{same_seq, seq_back}
 use Rattle.segment.specs.Flags.{is_reset, ack, SYN, SYN+ACK, ACK+RST}
@@ -8,10 +8,16 @@ use Rattle.connection.specs.Ends.{count, opener, answerer, zeros, unheard, recor
 use Rattle.connection.specs.Ranges.{sequence_met, ack_range, ack_met}
 use Rattle.connection.specs.Stages.{life_of, fins_after, stage_after}
 use Rattle.connection.specs.declared.Connection.{Connection}
-use Rattle.connection.specs.declared.Decided.{Decided}
 use Rattle.connection.specs.declared.End.{End}
-use Rattle.connection.specs.declared.Verdict.{Verdict}
-use Rattle.connection.specs.declared.Verdict.TheVariants.{Pass, NotAllowed, SequenceMissed, AckMissed}
+use Rattle.connection.specs.declared.SegmentError.{SegmentError}
+use Rattle.connection.specs.declared.SegmentError.TheVariants.{NotAllowed, SequenceMissed, AckMissed}
+
+-- a pass, or why a segment is blocked
+abbrev pub Verdict : Type 0
+Verdict = Result (Unit {0}) SegmentError
+
+abbrev pub pass : Verdict
+pass = Ok tt
 
 abbrev pub opener_of : Connection → End
 opener_of c = record_of c.ends opener
@@ -26,25 +32,29 @@ reply c i g = (i =ᵇ answerer) && (same_seq g.ack (opener_of c).end && ((g.flag
 
 -- 13: stage 1, and not one of the three segments allowed there
 unfoldable pub verdict_unanswered : Connection → ℕ → Segment → Verdict
-verdict_unanswered c i g = when same_syn c i g || reply c i g then Pass else NotAllowed
+verdict_unanswered c i g = when same_syn c i g || reply c i g then pass else Err NotAllowed
 
 -- 14: sequence range missed; 15: ACK set, acknowledgement range missed
 unfoldable pub verdict_by_ranges : Connection → ℕ → Segment → Verdict
 verdict_by_ranges c i g =
-    when not (sequence_met (sender c.ends i) (receiver c.ends i) g) then SequenceMissed
-    else when (ack g.flags =ᵇ 1) && not (ack_met ack_range (receiver c.ends i) g) then AckMissed
-    else Pass
+    when not (sequence_met (sender c.ends i) (receiver c.ends i) g) then Err SequenceMissed
+    else when (ack g.flags =ᵇ 1) && not (ack_met ack_range (receiver c.ends i) g) then Err AckMissed
+    else pass
 
 -- rows 13, 14, 15 and 0, for a segment of sender i
 unfoldable pub verdict_on : Connection → ℕ → Segment → Verdict
 verdict_on c i g = when c.stage =ᵇ 1 then verdict_unanswered c i g else verdict_by_ranges c i g
 
--- document 01's number of each verdict
-abbrev pub verdict_number : Verdict → ℕ
-verdict_number Pass = 0
-verdict_number NotAllowed = 13
-verdict_number SequenceMissed = 14
-verdict_number AckMissed = 15
+-- document 01's number of each cause
+abbrev pub error_number : SegmentError → ℕ
+error_number NotAllowed = 13
+error_number SequenceMissed = 14
+error_number AckMissed = 15
+
+-- and of what a segment comes to: 0 for a pass, whatever it has beside it
+abbrev pub verdict_number : {A : Type 0} → Result A SegmentError → ℕ
+verdict_number (Ok x) = 0
+verdict_number (Err e) = error_number e
 
 -- the answer to a segment of a matched connection: 13, 14, 15 or 0
 abbrev pub answer_on : Connection → ℕ → Segment → ℕ
@@ -117,13 +127,11 @@ passed c i g now =
 
 -- What a segment of a matched connection comes to
 
--- the connection after a verdict: what a pass leaves, or else as it was
-abbrev pub after_verdict : Verdict → Connection → Connection → Connection
-after_verdict Pass left c = left
-after_verdict NotAllowed left c = c
-after_verdict SequenceMissed left c = c
-after_verdict AckMissed left c = c
+-- by its verdict: what a pass leaves, or why it is blocked
+abbrev pub after_verdict : Verdict → Connection → Result Connection SegmentError
+after_verdict (Ok x) left = Ok left
+after_verdict (Err e) left = Err e
 
--- the verdict, and the connection then
-unfoldable pub decided : Connection → ℕ → Segment → ℕ → Decided
-decided c i g now = record { verdict = verdict_on c i g; connection = after_verdict (verdict_on c i g) (passed c i g now) c }
+-- the connection after a pass, or why there is none
+unfoldable pub decided : Connection → ℕ → Segment → ℕ → Result Connection SegmentError
+decided c i g now = after_verdict (verdict_on c i g) (passed c i g now)

@@ -7,6 +7,8 @@ use Rattle.serial.specs.declared.OctetCount.{OctetCount}
 use Rattle.segment.specs.Flags.{ack}
 use Rattle.segment.specs.declared.Segment.{Segment}
 use Rattle.connection.specs.declared.End.{End}
+use Rattle.connection.specs.declared.Sender.{Sender}
+use Rattle.connection.specs.declared.Sender.TheVariants.{Opener, Answerer}
 
 abbrev pub count : ℕ → OctetCount
 count n = record { 0 = n }
@@ -24,6 +26,11 @@ answerer = 1
 
 abbrev pub other_end : ℕ → ℕ
 other_end i = 1 - i
+
+-- the number of the end that sends
+abbrev pub end_of : Sender → ℕ
+end_of Opener = opener
+end_of Answerer = answerer
 
 -- Their records
 

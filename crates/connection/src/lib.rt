@@ -1,17 +1,68 @@
 // One connection by value: the decision on a segment of it, and what a pass leaves (document 01, "Ranges" and "Stages"; document 02, item 6).
 #![tactic(auto)]
 
-ghost use Rattle.std.specs.Prelude.{◌≡◌, ◌^◌, ◌<◌, ◌≤◌};
-ghost use Rattle.connection.specs.Ends.{effective_window, sent, granted, begun, widened, ends_after};
+ghost use Rattle.std.specs.Prelude.{◌≡◌, ◌+◌, ◌^◌, ◌<◌, ◌≤◌};
+ghost use Rattle.choice.specs.Choice.{when◌then◌else◌, ◌≤ᵇ◌};
+ghost use Rattle.connection.specs.Ends.{end_of, other_end, effective_window, sent, granted, begun, widened, ends_after};
 ghost use Rattle.connection.specs.Ranges.{sequence_met, ack_range, ack_met};
 ghost use Rattle.connection.specs.Stages.{longest_life, life_of, with_fin, fins_after, open_stage, stage_after};
-ghost use Rattle.connection.specs.Decision.{same_syn, reply, verdict_unanswered, verdict_by_ranges, verdict_on, verdict_number, answer_on, free, opened, repeated, answered, carried, reset, passed, decided};
+ghost use Rattle.connection.specs.Decision.{same_syn, reply, verdict_unanswered, verdict_by_ranges, verdict_on, error_number, verdict_number, answer_on, free, opened, repeated, answered, carried, reset, passed, decided};
 
-use segment::Segment;
+use segment::{Flag, Segment};
 use serial::{OctetCount, SeqNum};
 
-// What one end has shown, resets left out: document 01's record.
-#[derive(Clone, Copy)]
+// Document 01's segments of stage 1, by all their flags.
+const SYN: u8 = Flag::Syn as u8;
+
+const SYN_ACK: u8 = Flag::Syn as u8 | Flag::Ack as u8;
+
+const ACK_RST: u8 = Flag::Ack as u8 | Flag::Rst as u8;
+
+// Which end of a connection sends.
+#[derive(Clone, Copy, Debug, PartialEq, Eq)]
+pub enum Sender {
+    Opener,
+    Answerer,
+}
+
+impl Sender {
+    // The place of its record among the two.
+    fn index(self) -> usize
+        ensures index { result ≡ end_of self }
+        ensures inside { result < 2 }
+    {
+        self as usize
+    }
+
+    // The end that it sends to.
+    fn other(self) -> Sender
+        ensures { end_of result ≡ other_end (end_of self) }
+    {
+        match self {
+            Sender::Opener => Sender::Answerer,
+            Sender::Answerer => Sender::Opener,
+        }
+    }
+}
+
+// A clock in ms that row 2 lets through.
+#[derive(Clone, Copy, Debug)]
+pub struct Clock {
+    pub ms: u64,
+    pub ghost in_range: { ms < 2 ^ 48 },
+}
+
+impl Clock {
+    // The deadline that a pass at this clock gives an entry, by its new stage.
+    fn deadline(self, stage: u8) -> u64
+        ensures { result ≡ self.ms + life_of stage }
+    {
+        self.ms + life(stage)
+    }
+}
+
+// What one end has shown, resets left out: document 01's record. By default it is a freed one.
+#[derive(Clone, Copy, Debug, Default, PartialEq, Eq)]
 pub struct End {
     // The highest end of a segment that it sent.
     pub end: SeqNum,
@@ -21,7 +72,9 @@ pub struct End {
     pub win: OctetCount,
 }
 
-#[derive(Clone, Copy)]
+// By default it is free. Stage, side and FIN bits stay numbers: document 01 has a match on the stage number with ranges, and lent bytes,
+// as the program `bounds`, give a connection any of them.
+#[derive(Clone, Copy, Debug, Default, PartialEq, Eq)]
 pub struct Connection {
     // 1 unanswered, 2 answered, 3 open, 4 one FIN, 5 both, 6 reset; 0 is a free connection.
     pub stage: u8,
@@ -34,43 +87,31 @@ pub struct Connection {
     pub ends: [End; 2],
 }
 
-#[derive(Clone, Copy)]
-pub enum Verdict {
-    Pass,
-    // 13: none of the three segments that stage 1 allows.
-    NotAllowed,
-    // 14: sequence range missed.
-    SequenceMissed,
-    // 15: acknowledgement range missed.
-    AckMissed,
+// Why a segment of a matched connection is blocked, by document 01's numbers.
+#[derive(Clone, Copy, Debug, PartialEq, Eq)]
+pub enum SegmentError {
+    // None of the three segments that stage 1 allows.
+    NotAllowed = 13,
+    // Sequence range missed.
+    SequenceMissed = 14,
+    // Acknowledgement range missed.
+    AckMissed = 15,
 }
 
-impl Verdict {
+impl SegmentError {
     // The answer that document 01 numbers.
     pub fn number(self) -> u32
-        ensures { result ≡ verdict_number self }
+        ensures { result ≡ error_number self }
     {
-        match self {
-            Verdict::Pass => 0,
-            Verdict::NotAllowed => 13,
-            Verdict::SequenceMissed => 14,
-            Verdict::AckMissed => 15,
-        }
+        self as u32
     }
-}
-
-// What a segment of a matched connection comes to.
-#[derive(Clone, Copy)]
-pub struct Decided {
-    pub verdict: Verdict,
-    // What a pass leaves, or else the connection as it was.
-    pub connection: Connection,
 }
 
 // The life of a stage in ms.
 #[tactic(auto, using(choice::proofs::Choice::when_cond), unfolding(crate::specs::Stages::life_of))]
 pub fn life(stage: u8) -> u64
-    ensures { (result ≡ life_of stage) × (result ≤ longest_life) }
+    ensures life { result ≡ life_of stage }
+    ensures longest { result ≤ longest_life }
 {
     match stage {
         1..=2 => 60_000,
@@ -91,40 +132,27 @@ fn effective_window(segment: Segment) -> OctetCount
 
 impl End {
     // The sender's record after a segment of its own.
-    #[tactic(auto, using(choice::proofs::Choice::when_cond), unfolding(crate::specs::Ends::sent))]
+    #[tactic(auto, unfolding(crate::specs::Ends::sent))]
     pub fn sent(self, segment: Segment) -> End
         ensures { result ≡ sent self segment }
     {
-        let end = self.end;
-        let edge = self.edge;
-        let win = self.win;
-        let seq = segment.seq;
-        let octets = segment.octets;
-        let window = effective_window(segment);
-        let far = end.further(end, seq.plus(octets));
-        let largest = win.larger(window);
         End {
-            end: far,
-            edge: edge,
-            win: largest,
+            end: self.end.further(self.end, segment.seq + segment.octets),
+            ..self.widened(segment)
         }
     }
 
     // The record after an acknowledging segment of the other end.
-    #[tactic(auto, using(choice::proofs::Choice::when_cond), unfolding(crate::specs::Ends::granted))]
+    #[tactic(auto, unfolding(crate::specs::Ends::granted))]
     pub fn granted(self, segment: Segment) -> End
         ensures { result ≡ granted self segment }
     {
-        let end = self.end;
-        let edge = self.edge;
-        let win = self.win;
-        let ack = segment.ack;
-        let window = effective_window(segment);
-        let far = end.further(edge, ack.plus(window.larger(OctetCount(1))));
         End {
-            end: end,
-            edge: far,
-            win: win,
+            edge: self.end.further(
+                self.edge,
+                segment.ack + effective_window(segment).max(OctetCount(1)),
+            ),
+            ..self
         }
     }
 
@@ -132,114 +160,81 @@ impl End {
     pub fn begun(segment: Segment) -> End
         ensures { result ≡ begun segment }
     {
-        let seq = segment.seq;
-        let window = effective_window(segment);
-        let end = seq.plus(OctetCount(1));
-        let win = window.larger(OctetCount(1));
+        let end = segment.seq + OctetCount(1);
         End {
-            end: end,
+            end,
             edge: end,
-            win: win,
+            win: effective_window(segment).max(OctetCount(1)),
         }
     }
 
-    // The opener's record after the same SYN again.
+    // The record with a segment's window, if that is the largest so far: all that the same SYN again changes.
     pub fn widened(self, segment: Segment) -> End
         ensures { result ≡ widened self segment }
     {
-        let end = self.end;
-        let edge = self.edge;
-        let win = self.win;
-        let window = effective_window(segment);
-        let most = win.larger(window);
         End {
-            end: end,
-            edge: edge,
-            win: most,
+            win: self.win.max(effective_window(segment)),
+            ..self
         }
     }
 }
 
 // Bounds I and II.
-#[tactic(auto, using(choice::proofs::Choice::when_cond), unfolding(crate::specs::Ranges::sequence_met))]
+#[tactic(auto, unfolding(crate::specs::Ranges::sequence_met))]
 fn sequence_met(from: End, to: End, segment: Segment) -> bool
     ensures { result ≡ sequence_met from to segment }
 {
-    let end = from.end;
-    let edge = from.edge;
-    let win = to.win;
-    let seq = segment.seq;
-    let octets = segment.octets;
-    let low = end.back(win);
-    seq.minus(low).within(octets, edge.minus(low))
+    let low = from.end - to.win;
+    (segment.seq - low).within(segment.octets, from.edge - low)
 }
 
 // Bounds III and IV.
-#[tactic(auto, using(choice::proofs::Choice::when_cond), unfolding(crate::specs::Ranges::ack_met))]
+#[tactic(auto, unfolding(crate::specs::Ranges::ack_met))]
 fn ack_met(to: End, segment: Segment) -> bool
     ensures { result ≡ ack_met ack_range to segment }
 {
-    let end = to.end;
-    let ack = segment.ack;
-    let behind = end.minus(ack);
-    behind.at_most(OctetCount(66_000))
+    to.end - segment.ack <= OctetCount(66_000)
 }
 
 // The FIN bits with the sender's set: bit 0 the opener's, bit 1 the answerer's.
-#[tactic(auto, using(choice::proofs::Choice::when_cond), unfolding(crate::specs::Stages::with_fin))]
-fn with_fin(fins: u8, sender: usize) -> u8
-    ensures { result ≡ with_fin fins sender }
+#[tactic(auto, using(choice::proofs::Choice::when_cond, crate::proofs::Fins::or_1, crate::proofs::Fins::or_2), unfolding(crate::specs::Stages::with_fin))]
+fn with_fin(fins: u8, sender: Sender) -> u8
+    ensures { result ≡ with_fin fins (end_of sender) }
 {
     match sender {
-        0 => match fins % 2 {
-            1 => fins,
-            _ => fins + 1,
-        },
-        _ => match fins / 2 % 2 {
-            1 => fins,
-            _ => fins + 2,
-        },
+        Sender::Opener => fins | 1,
+        Sender::Answerer => fins | 2,
     }
 }
 
 // The FIN bits after a segment.
 #[tactic(auto, using(choice::proofs::Choice::when_cond), unfolding(crate::specs::Stages::fins_after))]
-fn fins_after(fins: u8, sender: usize, segment: Segment) -> u8
-    ensures { result ≡ fins_after fins sender segment.flags }
+fn fins_after(fins: u8, sender: Sender, segment: Segment) -> u8
+    ensures { result ≡ fins_after fins (end_of sender) segment.flags }
 {
-    match segment.has_fin() {
-        true => with_fin(fins, sender),
-        false => fins,
+    if segment.has(Flag::Fin) {
+        with_fin(fins, sender)
+    } else {
+        fins
     }
 }
 
 // The stage after a segment where no FIN bit is set.
 #[tactic(auto, using(choice::proofs::Choice::when_cond), unfolding(crate::specs::Stages::open_stage))]
-fn open_stage(stage: u8, sender: usize, segment: Segment) -> u8
-    ensures { result ≡ open_stage stage sender segment.flags }
+fn open_stage(stage: u8, sender: Sender, segment: Segment) -> u8
+    ensures { result ≡ open_stage stage (end_of sender) segment.flags }
 {
-    match stage {
-        3 => 3,
-        6 => 3,
-        _ => {
-            if sender != 0 {
-                return 2;
-            }
-            if !segment.has_ack() {
-                return 2;
-            }
-            if segment.has_syn() {
-                return 2;
-            }
-            3
-        }
+    match (stage, sender) {
+        (3 | 6, _) => 3,
+        (_, Sender::Opener) if segment.has(Flag::Ack) && !segment.has(Flag::Syn) => 3,
+        _ => 2,
     }
 }
 
 // The stage after a segment, by the FIN bits after it.
 #[tactic(auto, using(choice::proofs::Choice::when_cond), unfolding(crate::specs::Stages::stage_after))]
-fn stage_after(stage: u8, fins: u8, sender: usize, segment: Segment) -> u8
-    ensures { result ≡ stage_after stage fins sender segment.flags }
+fn stage_after(stage: u8, fins: u8, sender: Sender, segment: Segment) -> u8
+    ensures { result ≡ stage_after stage fins (end_of sender) segment.flags }
 {
     match fins {
         3 => 5,
@@ -248,273 +243,197 @@ fn stage_after(stage: u8, fins: u8, sender: usize, segment: Segment) -> u8
     }
 }
 
-// A free connection: all zeros.
-fn no_connection() -> Connection
-    ensures { result ≡ free }
-{
-    let zero = End {
-        end: SeqNum(0),
-        edge: SeqNum(0),
-        win: OctetCount(0),
-    };
-    Connection {
-        stage: 0,
-        side: 0,
-        fins: 0,
-        deadline: 0,
-        ends: [zero, zero],
-    }
-}
-
 impl Connection {
     // The connection that an opening SYN makes.
-    #[tactic(auto, using(choice::proofs::Choice::when_cond), unfolding(crate::specs::Decision::opened))]
-    pub fn opened(side: u8, segment: Segment, clock: u64) -> Connection
-        requires { clock < 2 ^ 48 }
-        ensures { result ≡ opened side segment clock }
+    #[tactic(auto, unfolding(crate::specs::Decision::opened))]
+    pub fn opened(side: u8, segment: Segment, clock: Clock) -> Connection
+        ensures { result ≡ opened side segment clock.ms }
     {
-        let opener = End::begun(segment);
         let answerer = End {
-            end: SeqNum(0),
-            edge: SeqNum(0),
             win: OctetCount(1),
+            ..End::default()
         };
-        let deadline = clock + life(1);
         Connection {
             stage: 1,
-            side: side,
+            side,
             fins: 0,
-            deadline: deadline,
-            ends: [opener, answerer],
+            deadline: clock.deadline(1),
+            ends: [End::begun(segment), answerer],
         }
     }
 
+    // Sender and segment are given apart, as the definitions have them.
+
     // Whether a segment is the opener's SYN again.
-    #[tactic(auto, using(choice::proofs::Choice::when_cond), unfolding(crate::specs::Decision::same_syn))]
-    fn same_syn(self, sender: usize, segment: Segment) -> bool
-        ensures { result ≡ same_syn self sender segment }
+    #[tactic(auto, unfolding(crate::specs::Decision::same_syn))]
+    fn same_syn(self, sender: Sender, segment: Segment) -> bool
+        ensures { result ≡ same_syn self (end_of sender) segment }
     {
-        let opener = self.ends[0];
-        let end = opener.end;
-        let seq = segment.seq;
-        let flags = segment.flags;
-        let before = end.back(OctetCount(1));
-        if sender != 0 {
-            return false;
-        }
-        match flags {
-            2 => seq.is(before),
+        match (sender, segment.flags) {
+            (Sender::Opener, SYN) => segment.seq == self.ends[0].end - OctetCount(1),
             _ => false,
         }
     }
 
     // Whether a segment is the answerer's reply to the SYN: SYN+ACK or ACK+RST.
-    #[tactic(auto, using(choice::proofs::Choice::when_cond), unfolding(crate::specs::Decision::reply))]
-    fn reply(self, sender: usize, segment: Segment) -> bool
-        ensures { result ≡ reply self sender segment }
+    #[tactic(auto, unfolding(crate::specs::Decision::reply))]
+    fn reply(self, sender: Sender, segment: Segment) -> bool
+        ensures { result ≡ reply self (end_of sender) segment }
     {
-        let opener = self.ends[0];
-        let end = opener.end;
-        let ack = segment.ack;
-        let flags = segment.flags;
-        if sender != 1 {
-            return false;
-        }
-        if !ack.is(end) {
-            return false;
-        }
-        match flags {
-            18 => true,
-            20 => true,
+        match (sender, segment.flags) {
+            (Sender::Answerer, SYN_ACK | ACK_RST) => segment.ack == self.ends[0].end,
             _ => false,
         }
     }
 
-    // Row 13, or 0, in stage 1.
+    // Row 13, or a pass, in stage 1.
     #[tactic(auto, using(choice::proofs::Choice::when_cond), unfolding(crate::specs::Decision::verdict_unanswered))]
-    fn unanswered(self, sender: usize, segment: Segment) -> Verdict
-        ensures { result ≡ verdict_unanswered self sender segment }
+    fn unanswered(self, sender: Sender, segment: Segment) -> Result<(), SegmentError>
+        ensures { result ≡ verdict_unanswered self (end_of sender) segment }
     {
-        if self.same_syn(sender, segment) {
-            return Verdict::Pass;
+        if self.same_syn(sender, segment) || self.reply(sender, segment) {
+            Ok(())
+        } else {
+            Err(SegmentError::NotAllowed)
         }
-        if self.reply(sender, segment) {
-            return Verdict::Pass;
-        }
-        Verdict::NotAllowed
     }
 
-    // Rows 14, 15 and 0.
+    // Rows 14 and 15, or a pass.
     #[tactic(auto, using(choice::proofs::Choice::when_cond), unfolding(crate::specs::Decision::verdict_by_ranges))]
-    fn ranges(self, sender: usize, segment: Segment) -> Verdict
-        requires { sender < 2 }
-        ensures { result ≡ verdict_by_ranges self sender segment }
+    fn ranges(self, sender: Sender, segment: Segment) -> Result<(), SegmentError>
+        ensures { result ≡ verdict_by_ranges self (end_of sender) segment }
     {
-        let from = self.ends[sender];
-        let to = self.ends[1 - sender];
+        let from = self.ends[sender.index()];
+        let to = self.ends[sender.other().index()];
         if !sequence_met(from, to, segment) {
-            return Verdict::SequenceMissed;
+            Err(SegmentError::SequenceMissed)
+        } else if segment.has(Flag::Ack) && !ack_met(to, segment) {
+            Err(SegmentError::AckMissed)
+        } else {
+            Ok(())
         }
-        if !segment.has_ack() {
-            return Verdict::Pass;
-        }
-        if !ack_met(to, segment) {
-            return Verdict::AckMissed;
-        }
-        Verdict::Pass
     }
 
-    // Rows 13 to 15 and 0.
+    // Rows 13 to 15, or a pass.
     #[tactic(auto, using(choice::proofs::Choice::when_cond), unfolding(crate::specs::Decision::verdict_on))]
-    fn verdict(self, sender: usize, segment: Segment) -> Verdict
-        requires { sender < 2 }
-        ensures { (result ≡ verdict_on self sender segment) × (verdict_number result ≡ answer_on self sender segment) }
+    fn verdict(self, sender: Sender, segment: Segment) -> Result<(), SegmentError>
+        ensures verdict { result ≡ verdict_on self (end_of sender) segment }
+        ensures answer { verdict_number result ≡ answer_on self (end_of sender) segment }
     {
-        let stage = self.stage;
-        match stage {
+        match self.stage {
             1 => self.unanswered(sender, segment),
             _ => self.ranges(sender, segment),
         }
     }
 
     // After the same SYN again.
-    #[tactic(auto, using(choice::proofs::Choice::when_cond), unfolding(crate::specs::Decision::repeated))]
-    fn repeated(self, segment: Segment, clock: u64) -> Connection
-        requires { clock < 2 ^ 48 }
-        ensures { result ≡ repeated self segment clock }
+    #[tactic(auto, unfolding(crate::specs::Decision::repeated))]
+    fn repeated(self, segment: Segment, clock: Clock) -> Connection
+        ensures { result ≡ repeated self segment clock.ms }
     {
-        let side = self.side;
-        let opener = self.ends[0];
-        let mut ends = self.ends;
-        ends[0] = opener.widened(segment);
-        let deadline = clock + life(1);
+        let [opener, answerer] = self.ends;
         Connection {
             stage: 1,
-            side: side,
             fins: 0,
-            deadline: deadline,
-            ends: ends,
+            deadline: clock.deadline(1),
+            ends: [opener.widened(segment), answerer],
+            ..self
         }
     }
 
     // After the SYN+ACK.
-    #[tactic(auto, using(choice::proofs::Choice::when_cond), unfolding(crate::specs::Decision::answered))]
-    fn answered(self, segment: Segment, clock: u64) -> Connection
-        requires { clock < 2 ^ 48 }
-        ensures { result ≡ answered self segment clock }
+    #[tactic(auto, unfolding(crate::specs::Decision::answered))]
+    fn answered(self, segment: Segment, clock: Clock) -> Connection
+        ensures { result ≡ answered self segment clock.ms }
     {
-        let side = self.side;
-        let opener = self.ends[0];
-        let raised = opener.granted(segment);
-        let answerer = End::begun(segment);
-        let deadline = clock + life(2);
         Connection {
             stage: 2,
-            side: side,
             fins: 0,
-            deadline: deadline,
-            ends: [raised, answerer],
+            deadline: clock.deadline(2),
+            ends: [self.ends[0].granted(segment), End::begun(segment)],
+            ..self
         }
     }
 
     // The two records after a segment from stage 2 on.
     #[tactic(auto, using(choice::proofs::Choice::when_cond), unfolding(crate::specs::Ends::ends_after))]
-    fn ends_after(self, sender: usize, segment: Segment) -> [End; 2]
-        requires { sender < 2 }
-        ensures { result ≡ ends_after self.ends sender segment }
+    fn ends_after(self, sender: Sender, segment: Segment) -> [End; 2]
+        ensures { result ≡ ends_after self.ends (end_of sender) segment }
     {
-        let acks = segment.has_ack();
-        let from = self.ends[sender];
-        let to = self.ends[1 - sender];
+        let from = sender.index();
+        let to = sender.other().index();
         let mut ends = self.ends;
-        ends[sender] = from.sent(segment);
-        if !acks {
-            return ends;
+        ends[from] = self.ends[from].sent(segment);
+        if segment.has(Flag::Ack) {
+            ends[to] = self.ends[to].granted(segment);
         }
-        ends[1 - sender] = to.granted(segment);
         ends
     }
 
     // After a segment from stage 2 on.
-    #[tactic(auto, using(choice::proofs::Choice::when_cond), unfolding(crate::specs::Decision::carried))]
-    fn carried(self, sender: usize, segment: Segment, clock: u64) -> Connection
-        requires { (sender < 2) × (clock < 2 ^ 48) }
-        ensures { result ≡ carried self sender segment clock }
+    #[tactic(auto, unfolding(crate::specs::Decision::carried))]
+    fn carried(self, sender: Sender, segment: Segment, clock: Clock) -> Connection
+        ensures { result ≡ carried self (end_of sender) segment clock.ms }
     {
-        let side = self.side;
         let fins = fins_after(self.fins, sender, segment);
         let stage = stage_after(self.stage, fins, sender, segment);
-        let deadline = clock + life(stage);
-        let ends = self.ends_after(sender, segment);
         Connection {
-            stage: stage,
-            side: side,
-            fins: fins,
-            deadline: deadline,
-            ends: ends,
+            stage,
+            fins,
+            deadline: clock.deadline(stage),
+            ends: self.ends_after(sender, segment),
+            ..self
         }
     }
 
     // After a reset from stage 2 on: the far end may not get it, so the connection goes on as it was, for a short life.
-    #[tactic(auto, using(choice::proofs::Choice::when_cond), unfolding(crate::specs::Decision::reset))]
-    fn reset(self, clock: u64) -> Connection
-        requires { clock < 2 ^ 48 }
-        ensures { result ≡ reset self clock }
+    #[tactic(auto, unfolding(crate::specs::Decision::reset))]
+    fn reset(self, clock: Clock) -> Connection
+        ensures { result ≡ reset self clock.ms }
     {
-        let side = self.side;
-        let fins = self.fins;
-        let ends = self.ends;
-        let expiry = clock + life(6);
         Connection {
             stage: 6,
-            side: side,
-            fins: fins,
-            deadline: expiry,
-            ends: ends,
+            deadline: clock.deadline(6),
+            ..self
         }
     }
 
-    // The connection that a pass at this clock used leaves; a reset in stage 1 frees it.
-    #[tactic(auto, using(choice::proofs::Choice::when_cond), unfolding(crate::specs::Decision::passed))]
-    fn passed(self, sender: usize, segment: Segment, clock: u64) -> Connection
-        requires { (sender < 2) × (clock < 2 ^ 48) }
-        ensures { result ≡ passed self sender segment clock }
+    // After any reset: in stage 1 it frees the connection.
+    #[tactic(auto, using(choice::proofs::Choice::when_cond, crate::proofs::Default::free_by_default))]
+    fn after_reset(self, clock: Clock) -> Connection
+        ensures { result ≡ (when 2 ≤ᵇ self.stage then reset self clock.ms else free) }
     {
-        let stage = self.stage;
-        if segment.has_rst() {
-            return match stage {
-                0..=1 => no_connection(),
-                _ => self.reset(clock),
-            };
+        match self.stage {
+            0..=1 => Connection::default(),
+            _ => self.reset(clock),
         }
-        match stage {
-            1 => match sender {
-                0 => self.repeated(segment, clock),
-                _ => self.answered(segment, clock),
-            },
+    }
+
+    // The connection that a pass at this clock used leaves.
+    #[tactic(auto, using(choice::proofs::Choice::when_cond), unfolding(crate::specs::Decision::passed))]
+    fn passed(self, sender: Sender, segment: Segment, clock: Clock) -> Connection
+        ensures { result ≡ passed self (end_of sender) segment clock.ms }
+    {
+        match (self.stage, sender) {
+            _ if segment.has(Flag::Rst) => self.after_reset(clock),
+            (1, Sender::Opener) => self.repeated(segment, clock),
+            (1, Sender::Answerer) => self.answered(segment, clock),
             _ => self.carried(sender, segment, clock),
         }
     }
 
-    // Rows 13 to 15 and 0 for a segment of the sender, 0 the opener or 1 the answerer, and the connection then.
-    #[tactic(auto, using(choice::proofs::Choice::when_cond), unfolding(crate::specs::Decision::decided))]
-    pub fn decide(self, sender: usize, segment: Segment, clock: u64) -> Decided
-        requires { (sender < 2) × (clock < 2 ^ 48) }
-        ensures { (result ≡ decided self sender segment clock) × (verdict_number result.verdict ≡ answer_on self sender segment) }
+    // The connection that a pass of the sender's segment leaves, or row 13, 14 or 15.
+    #[tactic(auto, unfolding(crate::specs::Decision::decided))]
+    pub fn decide(
+        self,
+        sender: Sender,
+        segment: Segment,
+        clock: Clock,
+    ) -> Result<Connection, SegmentError>
+        ensures decided { result ≡ decided self (end_of sender) segment clock.ms }
+        ensures answer { verdict_number result ≡ answer_on self (end_of sender) segment }
     {
-        let verdict = self.verdict(sender, segment);
-        match verdict {
-            Verdict::Pass => {
-                let after = self.passed(sender, segment, clock);
-                Decided {
-                    verdict: verdict,
-                    connection: after,
-                }
-            }
-            _ => Decided {
-                verdict: verdict,
-                connection: self,
-            },
-        }
+        self.verdict(sender, segment)?;
+        Ok(self.passed(sender, segment, clock))
     }
 }

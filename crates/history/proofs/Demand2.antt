@@ -7,16 +7,16 @@ use mathlib.Core.List.{List, [], ◌∷◌}
 use native.Mathlib.Omega.{arith}
 use lib.Dec.{eqb}
 use borrow.Author.Tests.{eqb-true, eqb-false}
+use Rattle.std.specs.Prelude.{Ok, Err}
 use Rattle.choice.specs.Choice.{when◌then◌else◌}
 use Rattle.choice.proofs.Choice.{when-=, when-=-not, when-≤-not}
 use Rattle.serial.specs.Ring.{wrap, nearest}
 use Rattle.serial.proofs.Ring.{wrap-id, wrap-turn, wrap-nearest, nearest-near}
 use Rattle.segment.specs.Flags.{rst, SYN}
 use Rattle.segment.specs.declared.Segment.{Segment}
-use Rattle.connection.specs.Decision.{verdict_on, free, opened, passed}
+use Rattle.connection.specs.Decision.{Verdict, pass, verdict_on, free, opened, passed}
 use Rattle.connection.specs.declared.Connection.{Connection}
-use Rattle.connection.specs.declared.Verdict.{Verdict}
-use Rattle.connection.specs.declared.Verdict.TheVariants.{Pass, NotAllowed, SequenceMissed, AckMissed}
+use Rattle.connection.specs.declared.SegmentError.TheVariants.{NotAllowed, SequenceMissed, AckMissed}
 use Rattle.history.specs.Numbers.{Numbers}
 use Rattle.history.specs.History.{LineSegment, numbers_of, on_wire, stage_of, stands_by, placed_by, placed, judge, Holds, Formed, Placeable}
 use Rattle.history.specs.Demand2.{Presented, Presentable, AllPresentable, on_line, answer_to, judged_over, left_by, is_pass, connection_after, history_after, NoneFreed, opening_history, Agree, Demand2OfConnection}
@@ -108,13 +108,13 @@ module _ (c : Connection) (h : List LineSegment) (holds : Holds c h) (reached : 
       )
 
   -- a pass that is no reset
-  module _ (no_reset : rst o.segment.flags ≡ 1 → ⊥) (pass : judge h (on_line h o) ≡ Pass) where
+  module _ (no_reset : rst o.segment.flags ≡ 1 → ⊥) (passes : judge h (on_line h o) ≡ pass) where
     -- a line that begins, begins a turn up
     begins-up : Unanswered h → o.sender ≡ 1 → 2 ^ 32 ≤ (numbers_of 1 (on_line h o ∷ h)).end
     begins-up u answerer =
         let start : (on_line h o).start ≡ o.segment.seq.0 + 2 ^ 32 =
         when-= _ _ (ap (λ (i : ℕ). (numbers_of i h).end) answerer ∙ ap (λ (x : Numbers). x.end) u.unheard) in
-        let end = ap (λ (x : Numbers). x.end) (answerer-begins c h holds (on_line h o) formed pass u answerer no_reset) in
+        let end = ap (λ (x : Numbers). x.end) (answerer-begins c h holds (on_line h o) formed passes u answerer no_reset) in
         omega (arith, start, end)
 
     on-wire-holds : Reached h → Holds (passed c o.sender (on_wire (on_line h o)) o.now) (on_line h o ∷ h) × Reached (on_line h o ∷ h)
@@ -125,18 +125,18 @@ module _ (c : Connection) (h : List LineSegment) (holds : Holds c h) (reached : 
             Holds (passed c o.sender (on_wire (on_line h o)) o.now) (on_line h o ∷ h) × Reached (on_line h o ∷ h)
         by-sender true e =
             let opener = eqb-true o.sender 0 e in (
-              repeated-holds c h holds (on_line h o) formed pass u opener o.now,
-              unanswered (repeated-unanswered c h holds (on_line h o) formed pass u opener) (omega (arith, turned, numbers-rise 0 (on_line h o) h)),
+              repeated-holds c h holds (on_line h o) formed passes u opener o.now,
+              unanswered (repeated-unanswered c h holds (on_line h o) formed passes u opener) (omega (arith, turned, numbers-rise 0 (on_line h o) h)),
             )
         by-sender false e =
             let answerer : o.sender ≡ 1 = omega (arith, eqb-false o.sender 0 e, legal.sender_known) in (
-              answered-holds c h holds (on_line h o) formed pass u answerer no_reset o.now,
-              answered (answered-answered c h holds (on_line h o) formed pass u answerer no_reset)
+              answered-holds c h holds (on_line h o) formed passes u answerer no_reset o.now,
+              answered (answered-answered c h holds (on_line h o) formed passes u answerer no_reset)
                   (pick_two (λ i. 2 ^ 32 ≤ (numbers_of i (on_line h o ∷ h)).end) (omega (arith, turned, numbers-rise 0 (on_line h o) h)) (begins-up u answerer)),
             )
     on-wire-holds (answered a turned) = (
-      carried-holds c h holds (on_line h o) legal.sender_known formed no_reset pass a o.now,
-      answered (carried-answered c h holds (on_line h o) legal.sender_known formed no_reset pass a)
+      carried-holds c h holds (on_line h o) legal.sender_known formed no_reset passes a o.now,
+      answered (carried-answered c h holds (on_line h o) legal.sender_known formed no_reset passes a)
           (λ i s. omega (arith, turned i s, numbers-rise i (on_line h o) h)),
     )
 
@@ -145,13 +145,13 @@ module _ (c : Connection) (h : List LineSegment) (holds : Holds c h) (reached : 
 
   -- a pass that does not free
   pub pass-holds :
-      (rst o.segment.flags ≡ 1 → 2 ≤ stage_of h) → judge h (on_line h o) ≡ Pass →
+      (rst o.segment.flags ≡ 1 → 2 ≤ stage_of h) → judge h (on_line h o) ≡ pass →
       Holds (left_by c o) (on_line h o ∷ h) × Reached (on_line h o ∷ h)
-  pass-holds kept pass = by-reset (eqb (rst o.segment.flags) 1) refl
+  pass-holds kept passes = by-reset (eqb (rst o.segment.flags) 1) refl
     where
       by-reset : (t : Bool) → eqb (rst o.segment.flags) 1 ≡ t → Holds (left_by c o) (on_line h o ∷ h) × Reached (on_line h o ∷ h)
       by-reset true e = let is_reset = eqb-true _ _ e in reset-reached reached (kept is_reset) is_reset
-      by-reset false e = carried-reached (eqb-false _ _ e) pass
+      by-reset false e = carried-reached (eqb-false _ _ e) passes
 
 -- a reset in stage 1 frees
 pub reset-frees : (c : Connection) (i : ℕ) (g : Segment) (now : ℕ) → c.stage ≡ 1 → rst g.flags ≡ 1 → passed c i g now ≡ free
@@ -161,15 +161,15 @@ reset-frees c i g now first is_reset = let below : c.stage < 2 = omega arith in 
 -- The theorem, from any history reached
 
 module _ (c : Connection) (h : List LineSegment) (holds : Holds c h) (reached : Reached h) (o : Presented) (legal : Presentable o) where
-  module _ (kept : judged_over h o ≡ Pass → rst o.segment.flags ≡ 1 → 2 ≤ stage_of h) where
+  module _ (kept : judged_over h o ≡ pass → rst o.segment.flags ≡ 1 → 2 ≤ stage_of h) where
     by_answer :
         (v : Verdict) → judged_over h o ≡ v →
         let h' = when is_pass v then on_line h o ∷ h else h in Holds (when is_pass v then left_by c o else c) h' × Reached h'
     unfolding when◌then◌else◌
-    by_answer Pass e = pass-holds c h holds reached o legal (kept e) e
-    by_answer NotAllowed e = (holds, reached)
-    by_answer SequenceMissed e = (holds, reached)
-    by_answer AckMissed e = (holds, reached)
+    by_answer (Ok x) e = pass-holds c h holds reached o legal (kept e) e
+    by_answer (Err NotAllowed) e = (holds, reached)
+    by_answer (Err SequenceMissed) e = (holds, reached)
+    by_answer (Err AckMissed) e = (holds, reached)
 
     step : let h' = when is_pass (judged_over h o) then on_line h o ∷ h else h in Holds (when is_pass (answer_to c o) then left_by c o else c) h' × Reached h'
     step = rw (judged c h holds reached o legal) (by_answer (judged_over h o) refl)
@@ -178,7 +178,7 @@ module _ (c : Connection) (h : List LineSegment) (holds : Holds c h) (reached : 
   agree = record {
     holds = holds;
     answer = judged c h holds reached o legal;
-    freed = λ pass first. reset-frees c o.sender o.segment o.now (holds.stage ∙ first);
+    freed = λ passes first. reset-frees c o.sender o.segment o.now (holds.stage ∙ first);
   }
 
 pub after-all :

@@ -6,6 +6,7 @@ use mathlib.Core.List.{List, [], ◌∷◌}
 use native.Mathlib.Omega.{arith}
 use lib.Dec.{eqb}
 use borrow.Author.Tests.{eq-eqb, ne_eqb, eqb-true, eqb-false, leb-true}
+use Rattle.std.specs.Prelude.{Err}
 use Rattle.choice.specs.Choice.{when◌then◌else◌, ◌≤ᵇ◌, ◌=ᵇ◌, ◌≠ᵇ◌}
 use Rattle.choice.proofs.Choice.{when-true, when-false, when-either, when-=, when-=-not, when-≠, when-≠-not, when-≤, when-≤-not}
 use Rattle.choice.proofs.Tests.{false-true, &&-true}
@@ -16,10 +17,10 @@ use Rattle.segment.specs.declared.Segment.{Segment}
 use Rattle.connection.specs.Ends.{unheard, sender, sent, granted, begun, ends_after}
 use Rattle.connection.specs.Ranges.{ack_range}
 use Rattle.connection.specs.Stages.{fins_after, stage_after}
-use Rattle.connection.specs.Decision.{opened, repeated, answered, carried, reset, passed}
+use Rattle.connection.specs.Decision.{pass, opened, repeated, answered, carried, reset, passed}
 use Rattle.connection.specs.declared.Connection.{Connection}
 use Rattle.connection.specs.declared.End.{End}
-use Rattle.connection.specs.declared.Verdict.TheVariants.{Pass, NotAllowed, SequenceMissed, AckMissed}
+use Rattle.connection.specs.declared.SegmentError.TheVariants.{NotAllowed, SequenceMissed, AckMissed}
 use Rattle.connection.proofs.Stages.{stage_after≥2}
 use Rattle.history.specs.Numbers.{Numbers, on_ring, bounds_i_ii, bounds_iii_iv}
 use Rattle.history.specs.History.{LineSegment, end_by, edge_by, window_by, numbers_of, on_wire, stage_of, fins_of, same_syn_on_line, reply_on_line, judge_unanswered, judge, Holds, Formed}
@@ -111,7 +112,7 @@ spans-of-both x (suc (suc i)) side f t = absurd (omega arith)
 
 -- a verdict of Pass says that the ranges were met
 pub ranges-met :
-    (x a y : Bool) → (when not x then SequenceMissed else when a && not y then AckMissed else Pass) ≡ Pass →
+    (x a y : Bool) → (when not x then Err SequenceMissed else when a && not y then Err AckMissed else pass) ≡ pass →
     (x ≡ true) × (a ≡ true → y ≡ true)
 unfolding when◌then◌else◌
 ranges-met true true true e = (refl, λ t. refl)
@@ -119,7 +120,7 @@ ranges-met true true false e = false-true cc
 ranges-met true false y e = (refl, λ t. false-true t)
 ranges-met false a y e = false-true cc
 
-module _ (c : Connection) (h : List LineSegment) (holds : Holds c h) (p : LineSegment) (side : p.from < 2) (formed : Formed p) (no_reset : rst p.flags ≡ 1 → ⊥) (pass : judge h p ≡ Pass) where
+module _ (c : Connection) (h : List LineSegment) (holds : Holds c h) (p : LineSegment) (side : p.from < 2) (formed : Formed p) (no_reset : rst p.flags ≡ 1 → ⊥) (passes : judge h p ≡ pass) where
   module _ (open-h : Answered h) where
     F : Spans (numbers_of p.from h)
     F = spans h open-h p.from side
@@ -129,7 +130,7 @@ module _ (c : Connection) (h : List LineSegment) (holds : Holds c h) (p : LineSe
 
     met : (bounds_i_ii (numbers_of p.from h) (numbers_of (1 - p.from) h) p.start p.length ≡ true) × (eqb (ack p.flags) 1 ≡ true → bounds_iii_iv ack_range (numbers_of (1 - p.from) h) p.acked ≡ true)
     unfolding judge
-    met = ranges-met _ _ _ (sym (when-=-not _ _ (λ (e : stage_of h ≡ 1). omega (arith, open-h.stage))) ∙ pass)
+    met = ranges-met _ _ _ (sym (when-=-not _ _ (λ (e : stage_of h ≡ 1). omega (arith, open-h.stage))) ∙ passes)
 
     bounds : ((numbers_of p.from h).end ≤ p.start + (numbers_of (1 - p.from) h).win) × (p.start + p.length ≤ (numbers_of p.from h).edge)
     bounds =
@@ -281,7 +282,7 @@ module _ (h : List LineSegment) (p : LineSegment) (no_reset : rst p.flags ≡ 1 
   unfolding fins_of fins_after
   fins-unanswered none = when-=-not _ _ no_reset ∙ when-=-not _ _ none
 
-pub allowed : (t : Bool) → (when t then Pass else NotAllowed) ≡ Pass → t ≡ true
+pub allowed : (t : Bool) → (when t then pass else Err NotAllowed) ≡ pass → t ≡ true
 unfolding when◌then◌else◌
 allowed true e = refl
 allowed false e = false-true cc
@@ -311,7 +312,7 @@ begun-line p =
     let win : max p.window 1 ≡ max 1 p.window = omega arith in
     λ k. record { end = record { 0 = wrap-plus p.start 1 k }; edge = record { 0 = wrap-plus p.start 1 k }; win = record { 0 = win k } }
 
-module _ (c : Connection) (h : List LineSegment) (holds : Holds c h) (p : LineSegment) (formed : Formed p) (pass : judge h p ≡ Pass) (unanswered : Unanswered h) where
+module _ (c : Connection) (h : List LineSegment) (holds : Holds c h) (p : LineSegment) (formed : Formed p) (passes : judge h p ≡ pass) (unanswered : Unanswered h) where
   judged-by-three : judge h p ≡ judge_unanswered h p
   unfolding judge
   judged-by-three = when-= _ _ unanswered.stage
@@ -321,7 +322,7 @@ module _ (c : Connection) (h : List LineSegment) (holds : Holds c h) (p : LineSe
     pub again : (p.flags ≡ SYN) × (p.start + 1 ≡ (numbers_of 0 h).end)
     unfolding judge_unanswered same_syn_on_line reply_on_line
     again =
-        let b = &&-true (eqb p.flags SYN) (eqb (p.start + 1) (numbers_of 0 h).end) (of-opener p.from _ _ opener (allowed _ (sym judged-by-three ∙ pass))) in
+        let b = &&-true (eqb p.flags SYN) (eqb (p.start + 1) (numbers_of 0 h).end) (of-opener p.from _ _ opener (allowed _ (sym judged-by-three ∙ passes))) in
         (eqb-true _ _ b.0, eqb-true _ _ b.1)
 
     no_reset : rst p.flags ≡ 1 → ⊥
@@ -374,7 +375,7 @@ module _ (c : Connection) (h : List LineSegment) (holds : Holds c h) (p : LineSe
     pub reply : (p.acked ≡ (numbers_of 0 h).end) × (p.flags ≡ SYN+ACK)
     unfolding judge_unanswered same_syn_on_line reply_on_line
     reply =
-        let b = &&-true (eqb p.acked (numbers_of 0 h).end) ((p.flags =ᵇ SYN+ACK) || (p.flags =ᵇ ACK+RST)) (of-answerer p.from _ _ answerer (allowed _ (sym judged-by-three ∙ pass))) in
+        let b = &&-true (eqb p.acked (numbers_of 0 h).end) ((p.flags =ᵇ SYN+ACK) || (p.flags =ᵇ ACK+RST)) (of-answerer p.from _ _ answerer (allowed _ (sym judged-by-three ∙ passes))) in
         (eqb-true _ _ b.0, syn-ack p.flags no_reset b.1)
 
     acks : ack p.flags ≡ 1

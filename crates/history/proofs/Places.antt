@@ -6,6 +6,7 @@ use mathlib.Core.Logic.{◌⊎◌, ◌↔◌, inr, ⊎_elim}
 use mathlib.Core.List.{List}
 use native.Mathlib.Omega.{arith}
 use borrow.Author.Tests.{leb-true, eq-eqb, eqb-true}
+use Rattle.std.specs.Prelude.{Err}
 use Rattle.choice.specs.Choice.{when◌then◌else◌, ◌≤ᵇ◌, ◌=ᵇ◌}
 use Rattle.choice.proofs.Choice.{when-either, when-=, when-=-not}
 use Rattle.choice.proofs.Tests.{not-true-false, false-true, &&-true}
@@ -15,9 +16,8 @@ use Rattle.segment.specs.Flags.{ack}
 use Rattle.segment.specs.Readable.{Readable}
 use Rattle.segment.specs.declared.Segment.{Segment}
 use Rattle.connection.specs.Ranges.{ack_range}
-use Rattle.connection.specs.Decision.{verdict_number, opened}
-use Rattle.connection.specs.declared.Verdict.{Verdict}
-use Rattle.connection.specs.declared.Verdict.TheVariants.{Pass, SequenceMissed, AckMissed}
+use Rattle.connection.specs.Decision.{Verdict, pass, verdict_number, opened}
+use Rattle.connection.specs.declared.SegmentError.TheVariants.{SequenceMissed, AckMissed}
 use Rattle.history.specs.Numbers.{bounds_i_ii, bounds_iii_iv}
 use Rattle.history.specs.History.{LineSegment, numbers_of, stage_of, stands_by, placed, judge_unanswered, judge, Placeable}
 use Rattle.history.specs.Places.{MetFrom, AcksAt, ByAllPlaces}
@@ -50,7 +50,7 @@ module _ (h : List LineSegment) (both-heard : Answered h) (i : ℕ) (side : i < 
 -- The answers by the tests x (I and II), a (ACK) and y (III and IV)
 
 abbrev by_tests : Bool → Bool → Bool → Verdict
-by_tests x a y = when not x then SequenceMissed else when a && not y then AckMissed else Pass
+by_tests x a y = when not x then Err SequenceMissed else when a && not y then Err AckMissed else pass
 
 pub record NumberBy (x a y : Bool) : Type 0 where
   pub is-14 : (verdict_number (by_tests x a y) ≡ 14) ↔ (x ≡ false)

@@ -17,11 +17,10 @@ use Rattle.segment.specs.declared.Segment.{Segment}
 use Rattle.connection.specs.Ends.{sender, receiver, sent, granted, begun, ends_after}
 use Rattle.connection.specs.Ranges.{sequence_met, ack_range, ack_met}
 use Rattle.connection.specs.Stages.{fins_after, stage_after}
-use Rattle.connection.specs.Decision.{opened, repeated, answered, carried, reset, passed, same_syn, reply, verdict_unanswered, verdict_by_ranges, verdict_on}
+use Rattle.connection.specs.Decision.{pass, opened, repeated, answered, carried, reset, passed, same_syn, reply, verdict_unanswered, verdict_by_ranges, verdict_on}
 use Rattle.connection.specs.Sound.{sound_end, sound_unanswered, sound_connection}
 use Rattle.connection.specs.declared.Connection.{Connection}
 use Rattle.connection.specs.declared.End.{End}
-use Rattle.connection.specs.declared.Verdict.TheVariants.{Pass}
 use Rattle.connection.proofs.Stages.{stage_after≥2}
 use Rattle.connection.proofs.Sound.{sound_fins-to-3, sound_fins≤3, fins_after≤3, stage_after-sound, reset-sound, sound_end-true, true-sound_end, widened-sound, unheard-sound, life_of≤, Facts, sound-facts, facts-sound}
 use Rattle.history.specs.Numbers.{Numbers, on_ring}
@@ -91,7 +90,7 @@ both-after P x i g side f t u = by-ack (eqb (ack g.flags) 1) refl i side f t u
     by-ack false e (suc zero) s f t u = rw (when-false (eqb (ack g.flags) 1) _ _ e) (u, f)
     by-ack b e (suc (suc i)) s f t u = absurd (omega arith)
 
-module _ (clock : ℕ) (c : Connection) (x : ℕ → End) (ends : TwoEnds c x) (sound : Facts clock c) (now : ℕ) (p : LineSegment) (formed : Formed p) (side : p.from < 2) (pass : verdict_on c p.from (on_wire p) ≡ Pass) where
+module _ (clock : ℕ) (c : Connection) (x : ℕ → End) (ends : TwoEnds c x) (sound : Facts clock c) (now : ℕ) (p : LineSegment) (formed : Formed p) (side : p.from < 2) (passes : verdict_on c p.from (on_wire p) ≡ pass) where
   sound-end : (i : ℕ) → i < 2 → sound_end (x i) ≡ true
   sound-end = pick_two (λ k. sound_end (x k) ≡ true)
       (rw ends.two at sound.opener) (rw ends.two at sound.answerer)
@@ -120,7 +119,7 @@ module _ (clock : ℕ) (c : Connection) (x : ℕ → End) (ends : TwoEnds c x) (
     unfolding verdict_on verdict_by_ranges
     met =
         rw (ap (λ (l : List End). sender l p.from) ends.two ∙ two-sender x p.from side, ap (λ (l : List End). receiver l p.from) ends.two ∙ two-receiver x p.from side) at
-        (ranges-met (sequence_met (sender c.ends p.from) (receiver c.ends p.from) (on_wire p)) (eqb (ack p.flags) 1) (ack_met ack_range (receiver c.ends p.from) (on_wire p)) (sym (when-=-not _ _ later) ∙ pass))
+        (ranges-met (sequence_met (sender c.ends p.from) (receiver c.ends p.from) (on_wire p)) (eqb (ack p.flags) 1) (ack_met ack_range (receiver c.ends p.from) (on_wire p)) (sym (when-=-not _ _ later) ∙ passes))
 
     bounds : ((lifted (x p.from)).end ≤ p.start + (lifted (x (1 - p.from))).win) × (p.start + p.length ≤ (lifted (x p.from)).edge)
     bounds =
@@ -200,7 +199,7 @@ module _ (clock : ℕ) (c : Connection) (x : ℕ → End) (ends : TwoEnds c x) (
     acks-end : p.from ≡ 1 → Near (lifted (x 0)).end p.acked → p.acked ≡ (lifted (x 0)).end
     unfolding verdict_on verdict_unanswered same_syn reply
     acks-end answerer near =
-        let b = &&-true (eqb (wrap p.acked) (sender c.ends 0).end.0) ((p.flags =ᵇ SYN+ACK) || (p.flags =ᵇ ACK+RST)) (of-answerer p.from _ _ answerer (allowed _ (sym (when-= _ _ first) ∙ pass))) in
+        let b = &&-true (eqb (wrap p.acked) (sender c.ends 0).end.0) ((p.flags =ᵇ SYN+ACK) || (p.flags =ᵇ ACK+RST)) (of-answerer p.from _ _ answerer (allowed _ (sym (when-= _ _ first) ∙ passes))) in
         let acked : wrap p.acked ≡ (x 0).end.0 = rw ends.two at (eqb-true (wrap p.acked) (sender c.ends 0).end.0 b.0) in
         let same : (x 0).end.0 ≡ wrap (lifted (x 0)).end = sym (wrap-turn (x 0).end.0 ∙ wrap-id (x 0).end.0 ends.opener.end) in
         wrap-injective p.acked (lifted (x 0)).end (acked ∙ same) (omega (arith, near.high)) (omega (arith, near.low))
@@ -271,10 +270,10 @@ opened-sound side g now known r =
 
 -- a pass of a sound connection leaves it sound, unless it frees it
 pub passed-sound : PassedSound
-passed-sound clock c x ends sound i side g r now pass kept =
+passed-sound clock c x ends sound i side g r now passes kept =
     let E = (lifted (x i)).end in
     let E' = (lifted (x (1 - i))).end in
     let wire = on_wire-placed_by (lifted (x i)).end (lifted (x (1 - i))).end i g r (inr (omega arith)) (inr (omega arith)) in
     ap (λ (k : Segment). sound_connection now (passed c i k now)) (sym wire)
-    ∙ by-stage clock c x ends (sound-facts clock c sound) now (placed_by E E' i g) (placed-formed E E' i g r) side (ap (verdict_on c i) wire ∙ pass)
+    ∙ by-stage clock c x ends (sound-facts clock c sound) now (placed_by E E' i g) (placed-formed E E' i g r) side (ap (verdict_on c i) wire ∙ passes)
     (stands-near E g.seq.0 (omega arith)) (stands-near E' g.ack.0 (omega arith)) kept

@@ -4,10 +4,8 @@ use Rattle.choice.specs.Choice.{when◌then◌else◌, ◌=ᵇ◌}
 use Rattle.segment.specs.Flags.{rst, SYN}
 use Rattle.segment.specs.declared.Segment.{Segment}
 use Rattle.connection.specs.Ends.{opener}
-use Rattle.connection.specs.Decision.{verdict_on, verdict_number, free, opened, passed}
+use Rattle.connection.specs.Decision.{Verdict, pass, verdict_on, verdict_number, free, opened, passed}
 use Rattle.connection.specs.declared.Connection.{Connection}
-use Rattle.connection.specs.declared.Verdict.{Verdict}
-use Rattle.connection.specs.declared.Verdict.TheVariants.{Pass}
 use Rattle.history.specs.History.{LineSegment, stage_of, placed, judge, Holds, Placeable}
 use Rattle.history.specs.Places.{ByAllPlaces}
 
@@ -62,7 +60,7 @@ history_after h (o ∷ l) =
 unfoldable pub NoneFreed : List LineSegment → List Presented → Type 0
 NoneFreed h [] = Unit {0}
 NoneFreed h (o ∷ l) =
-    NoneFreed h l × (judged_over (history_after h l) o ≡ Pass → rst o.segment.flags ≡ 1 → 2 ≤ stage_of (history_after h l))
+    NoneFreed h l × (judged_over (history_after h l) o ≡ pass → rst o.segment.flags ≡ 1 → 2 ≤ stage_of (history_after h l))
 
 -- the history of an opening SYN alone
 abbrev pub opening_history : Segment → List LineSegment
@@ -72,7 +70,7 @@ opening_history g = placed [] opener g ∷ []
 pub record Agree (c : Connection) (h : List LineSegment) (o : Presented) : Type 0 where
   pub holds : Holds c h
   pub answer : answer_to c o ≡ judged_over h o
-  pub freed : answer_to c o ≡ Pass → stage_of h ≡ 1 → rst o.segment.flags ≡ 1 → left_by c o ≡ free
+  pub freed : answer_to c o ≡ pass → stage_of h ≡ 1 → rst o.segment.flags ≡ 1 → left_by c o ≡ free
 
 -- from an opening SYN g on, after every list of presentable segments of which none freed it, and at every next one
 abbrev pub Demand2OfConnection : Type 0

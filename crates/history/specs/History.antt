@@ -3,18 +3,18 @@
 -- their flags, the two ends, the verdicts with their numbers, the ring of 2^32 with the nearest place on the line (on which `further` rests), the
 -- constants 66,000 and 65,535, and, as the bounds say nothing of them, the FIN bits and the stage after a segment from stage 2 on (`fins_after`,
 -- `stage_after`), a stage's life (`life_of`) and a freed record (`zeros`); over tables, all of `rows` but the verdict and what a pass leaves.
-use Rattle.std.specs.Prelude.{ℕ, ◌+◌, ◌^◌, ◌<◌, ◌≤◌, max, ◌≡◌, Bool, ◌&&◌, ◌||◌, not, List, [], ◌∷◌}
+use Rattle.std.specs.Prelude.{ℕ, ◌+◌, ◌^◌, ◌<◌, ◌≤◌, max, ◌≡◌, Bool, ◌&&◌, ◌||◌, not, List, [], ◌∷◌, Err}
 use Rattle.choice.specs.Choice.{when◌then◌else◌, ◌≤ᵇ◌, ◌=ᵇ◌, ◌≠ᵇ◌}
 use Rattle.serial.specs.Ring.{nearest}
 use Rattle.serial.specs.Serial.{seq_at}
 use Rattle.segment.specs.Flags.{syn, is_reset, ack, SYN, SYN+ACK, ACK+RST}
 use Rattle.segment.specs.declared.Segment.{Segment}
 use Rattle.connection.specs.Ends.{count, opener, answerer, other_end}
+use Rattle.connection.specs.Decision.{Verdict, pass}
 use Rattle.connection.specs.Ranges.{ack_range, widest}
 use Rattle.connection.specs.Stages.{fins_after, stage_after}
 use Rattle.connection.specs.declared.Connection.{Connection}
-use Rattle.connection.specs.declared.Verdict.{Verdict}
-use Rattle.connection.specs.declared.Verdict.TheVariants.{Pass, NotAllowed, SequenceMissed, AckMissed}
+use Rattle.connection.specs.declared.SegmentError.TheVariants.{NotAllowed, SequenceMissed, AckMissed}
 use Rattle.history.specs.Numbers.{Numbers, on_ring, bounds_i_ii, bounds_iii_iv}
 
 -- a segment whose numbers are places on the line; it is from the opener or the answerer
@@ -106,15 +106,15 @@ reply_on_line h p = (p.from =ᵇ answerer) && ((p.acked =ᵇ (numbers_of opener 
 
 -- stage 1's three segments, on the line
 unfoldable pub judge_unanswered : List LineSegment → LineSegment → Verdict
-judge_unanswered h p = when same_syn_on_line h p || reply_on_line h p then Pass else NotAllowed
+judge_unanswered h p = when same_syn_on_line h p || reply_on_line h p then pass else Err NotAllowed
 
 -- in stage 1 only the three segments pass; from stage 2 on, what bounds I to IV give over the history's numbers
 unfoldable pub judge : List LineSegment → LineSegment → Verdict
 judge h p =
     when stage_of h =ᵇ 1 then judge_unanswered h p
-    else when not (bounds_i_ii (numbers_of p.from h) (numbers_of (other_end p.from) h) p.start p.length) then SequenceMissed
-    else when (ack p.flags =ᵇ 1) && not (bounds_iii_iv ack_range (numbers_of (other_end p.from) h) p.acked) then AckMissed
-    else Pass
+    else when not (bounds_i_ii (numbers_of p.from h) (numbers_of (other_end p.from) h) p.start p.length) then Err SequenceMissed
+    else when (ack p.flags =ᵇ 1) && not (bounds_iii_iv ack_range (numbers_of (other_end p.from) h) p.acked) then Err AckMissed
+    else pass
 
 -- The connection holds exactly those numbers modulo 2^32, and the FIN bits and stage of the history
 pub record Holds (c : Connection) (h : List LineSegment) : Type 0 where

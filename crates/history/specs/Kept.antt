@@ -2,11 +2,10 @@
 use Rattle.std.specs.Prelude.{ℕ, ◌≤◌, ◌<◌, ◌≡◌, true}
 use Rattle.segment.specs.Flags.{rst}
 use Rattle.segment.specs.declared.Segment.{Segment}
-use Rattle.connection.specs.Decision.{verdict_on, opened, passed}
+use Rattle.connection.specs.Decision.{pass, verdict_on, opened, passed}
 use Rattle.connection.specs.Sound.{sound_connection}
 use Rattle.connection.specs.declared.Connection.{Connection}
 use Rattle.connection.specs.declared.End.{End}
-use Rattle.connection.specs.declared.Verdict.TheVariants.{Pass}
 use Rattle.history.specs.History.{Placeable}
 use Rattle.history.specs.Records.{TwoEnds}
 
@@ -20,5 +19,5 @@ OpenedSound =
 abbrev pub PassedSound : Type 0
 PassedSound =
     (clock : ℕ) (c : Connection) (x : ℕ → End) → TwoEnds c x → sound_connection clock c ≡ true → (i : ℕ) → i < 2 → (g : Segment) →
-    Placeable g → (now : ℕ) → verdict_on c i g ≡ Pass → (rst g.flags ≡ 1 → 2 ≤ c.stage) →
+    Placeable g → (now : ℕ) → verdict_on c i g ≡ pass → (rst g.flags ≡ 1 → 2 ≤ c.stage) →
     sound_connection now (passed c i g now) ≡ true

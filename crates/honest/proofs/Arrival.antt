@@ -11,9 +11,8 @@ use Rattle.segment.specs.Flags.{rst, is_reset, ack}
 use Rattle.segment.specs.declared.Segment.{Segment}
 use Rattle.connection.specs.Ranges.{ack_range, widest}
 use Rattle.connection.specs.Stages.{life_of, fins_after}
-use Rattle.connection.specs.Decision.{verdict_on, free, passed, opened, carried, repeated, answered, reset}
+use Rattle.connection.specs.Decision.{pass, verdict_on, free, passed, opened, carried, repeated, answered, reset}
 use Rattle.connection.specs.declared.Connection.{Connection}
-use Rattle.connection.specs.declared.Verdict.TheVariants.{Pass}
 use Rattle.connection.proofs.Stages.{1≤life_of, stage_after≥2, stage_after≤5}
 use Rattle.history.specs.Numbers.{Numbers}
 use Rattle.history.specs.History.{LineSegment, numbers_of, on_wire, judge, Holds}
@@ -72,7 +71,7 @@ module _
   fact = inv.facts k p s sent no_reset
 
   pub record Passing : Type 0 where
-    pub verdict : verdict_on c p.from (on_wire p) ≡ Pass
+    pub verdict : verdict_on c p.from (on_wire p) ≡ pass
     pub holds_after : (now : ℕ) → Holds (passed c p.from (on_wire p) now) (p ∷ h)
     pub heard-after : Heard P (p ∷ h)
 
@@ -85,8 +84,8 @@ module _
     other-known : 1 - p.from < 2
     other-known = omega (arith, fact.end_known)
 
-    pass : judge h p ≡ Pass
-    pass = Bounds.judged-pass P h Arrived L inv overtaking_allowance k p s sent no_reset ordered fits a begun
+    passes : judge h p ≡ pass
+    passes = Bounds.judged-pass P h Arrived L inv overtaking_allowance k p s sent no_reset ordered fits a begun
 
     near : Near (numbers_of p.from h).end p.start
     near =
@@ -103,15 +102,15 @@ module _
 
     later-passing : Passing
     later-passing = record {
-      verdict = judged-answered c h holds p fact.end_known a near near-ack ∙ pass;
-      holds_after = carried-holds c h holds p fact.end_known fact.formed fact.no_reset pass a;
-      heard-after = both (carried-answered c h holds p fact.end_known fact.formed fact.no_reset pass a)
+      verdict = judged-answered c h holds p fact.end_known a near near-ack ∙ passes;
+      holds_after = carried-holds c h holds p fact.end_known fact.formed fact.no_reset passes a;
+      heard-after = both (carried-answered c h holds p fact.end_known fact.formed fact.no_reset passes a)
           (λ i known. omega (arith, begun i known, (rises-more p h).end i));
     }
 
   -- in stage 1
   module _ (u : Unanswered h) (begun : P.start 0 + 1 ≤ (numbers_of 0 h).end) where
-    first-pass : judge h p ≡ Pass
+    first-pass : judge h p ≡ pass
     first-pass = Bounds.judged-first P h Arrived L inv u begun k p s sent no_reset
 
     x : First P p s
@@ -120,7 +119,7 @@ module _
     opener-end : (numbers_of 0 h).end ≡ P.start 0 + 1
     opener-end = Bounds.opener-end P h Arrived L inv u begun
 
-    first-verdict : verdict_on c p.from (on_wire p) ≡ Pass
+    first-verdict : verdict_on c p.from (on_wire p) ≡ pass
     first-verdict =
         judged-unanswered c h holds p fact.end_known u
         (λ opener.

@@ -7,12 +7,14 @@ use mathlib.Core.List.{List}
 use native.Mathlib.Omega.{arith}
 use lib.Dec.{eqb}
 use borrow.Author.Tests.{eq-eqb, eqb-true, eqb-false, le-leb}
+use Rattle.std.specs.Prelude.{Err}
 use Rattle.choice.specs.Choice.{when◌then◌else◌, ◌=ᵇ◌}
 use Rattle.choice.proofs.Choice.{when-true, when-false, when-=, when-=-not}
 use Rattle.choice.proofs.Tests.{lt-or-ge}
 use Rattle.segment.specs.Flags.{ack, SYN, SYN+ACK}
 use Rattle.connection.specs.Ranges.{ack_range, widest}
-use Rattle.connection.specs.declared.Verdict.TheVariants.{Pass, AckMissed}
+use Rattle.connection.specs.Decision.{pass}
+use Rattle.connection.specs.declared.SegmentError.TheVariants.{AckMissed}
 use Rattle.history.specs.Numbers.{Numbers, bounds_i_ii, bounds_iii_iv}
 use Rattle.history.specs.History.{LineSegment, numbers_of, stage_of, judge, same_syn_on_line, reply_on_line, judge_unanswered, Formed}
 use Rattle.history.proofs.Step.{Spans}
@@ -121,7 +123,7 @@ module _
       bound-IV acks =
           ack-in-range widest ack_range fits F.win-most (highest-ack-near (λ g there none same acks'. (admitted g there none same).3 acks' acks)) acks
 
-      pub judged-pass : judge h p ≡ Pass
+      pub judged-pass : judge h p ≡ pass
       unfolding judge
       judged-pass =
           let later : stage_of h ≡ 1 → ⊥ = λ (e : stage_of h ≡ 1). omega (arith, both-heard.stage) in
@@ -131,7 +133,7 @@ module _
         where
           by-ack :
               (t : Bool) → eqb (ack p.flags) 1 ≡ t →
-              (when (ack p.flags =ᵇ 1) && not (bounds_iii_iv ack_range (numbers_of (1 - p.from) h) p.acked) then AckMissed else Pass) ≡ Pass
+              (when (ack p.flags =ᵇ 1) && not (bounds_iii_iv ack_range (numbers_of (1 - p.from) h) p.acked) then Err AckMissed else pass) ≡ pass
           by-ack true e =
               let acks = eqb-true (ack p.flags) 1 e in
               let in-range : bounds_iii_iv ack_range (numbers_of (1 - p.from) h) p.acked ≡ true =
@@ -193,7 +195,7 @@ module _
         omega (arith, (first-facts P g o.2 o.1.rule).end)) in
         omega arith
 
-    pub judged-first : (k : ℕ) (p : LineSegment) (s : ℕ) → SentWith k p s L → NoReset p → judge h p ≡ Pass
+    pub judged-first : (k : ℕ) (p : LineSegment) (s : ℕ) → SentWith k p s L → NoReset p → judge h p ≡ pass
     unfolding judge judge_unanswered same_syn_on_line reply_on_line
     judged-first k p s sent none = when-= _ _ quiet.stage ∙ by_end (eqb p.from 0) refl
       where
@@ -206,13 +208,13 @@ module _
         ff : FirstFacts P p
         ff = first-facts P p f.formed x.rule
 
-        allowed : same_syn_on_line h p || reply_on_line h p ≡ true → judge_unanswered h p ≡ Pass
+        allowed : same_syn_on_line h p || reply_on_line h p ≡ true → judge_unanswered h p ≡ pass
         allowed = when-true _ _ _
 
         not_same : eqb p.from 0 ≡ false → same_syn_on_line h p ≡ false
         not_same e = rw e
 
-        by_end : (t : Bool) → eqb p.from 0 ≡ t → judge_unanswered h p ≡ Pass
+        by_end : (t : Bool) → eqb p.from 0 ≡ t → judge_unanswered h p ≡ pass
         by_end true e =
             let opener = eqb-true p.from 0 e in
             let begins : P.start p.from ≡ P.start 0 = ap P.start opener in

@@ -7,6 +7,7 @@ use mathlib.Core.List.{List, [], ◌∷◌}
 use native.Mathlib.Omega.{arith}
 use lib.ListN.{length}
 use borrow.Author.Tests.{not-true, lt-ltb, ltb-true, leb-true, eq-eqb, eqb-true}
+use Rattle.std.specs.Prelude.{None, Option, Some}
 use Rattle.choice.specs.Choice.{◌<ᵇ◌, ◌≤ᵇ◌, ◌=ᵇ◌}
 use Rattle.choice.proofs.Tests.{&&-true, ||-true, false-true}
 use Rattle.address.specs.Flows.{same_flow}
@@ -18,8 +19,6 @@ use Rattle.connection.specs.Ends.{other_end}
 use Rattle.connection.specs.Ranges.{widest}
 use Rattle.rows.specs.Rows.{View, match_of}
 use Rattle.rows.specs.Connections.{connections}
-use Rattle.rows.specs.declared.Found.{Found}
-use Rattle.rows.specs.declared.Found.TheVariants.{At, Nothing}
 use Rattle.history.specs.History.{LineSegment, on_wire, stage_of, Formed}
 use Rattle.honest.specs.Machine.{asks, Machine}
 use Rattle.honest.specs.Rules.{Label, opening, arrival, other, IsArrivalOf, Event, send, call, delivery, Pair, side_of, key_of, sent_by, Sent, Arrived, received_by, highest, some, ack_of, edge_of, end_of, highest_ack_at_sending, MayOvertake, overtaking_allowance, has_answer, OpenersSyn, AnswerersSynAck, LaterSegment, AnyReset, Allowed, openers_syn, answerers_syn_ack, later, any_reset}
@@ -69,9 +68,9 @@ at_most m n = record { holds = m ≤ᵇ n; shows = leb-true m n }
 abbrev below : (m n : ℕ) → Test (m < n)
 below m n = record { holds = m <ᵇ n; shows = ltb-true m n }
 
-abbrev nothing : (r : Found) → Test (r ≡ Nothing)
-nothing Nothing = yes refl
-nothing (At p) = no
+abbrev nothing : (r : Option ℕ) → Test (r ≡ None)
+nothing None = yes refl
+nothing (Some p) = no
 
 -- asked only where the first holds
 pub when-shows : {A : Type 0} (b : Bool) (t : Test A) → not b || t.holds ≡ true → b ≡ true → A

@@ -6,6 +6,7 @@ use mathlib.Core.Bool.{Bool, true, false, ◌&&◌}
 use mathlib.Core.List.{List, [], ◌∷◌}
 use native.Mathlib.Omega.{arith}
 use borrow.Author.Tests.{eq-eqb, eqb-true, eqb-false}
+use Rattle.std.specs.Prelude.{None, Option, Some}
 use Rattle.choice.specs.Choice.{◌=ᵇ◌}
 use Rattle.choice.proofs.Choice.{when-both}
 use Rattle.choice.proofs.Tests.{true-&&, &&-true, true-or-false, false-true}
@@ -13,14 +14,11 @@ use Rattle.address.specs.declared.Flow.{Flow}
 use Rattle.segment.specs.Flags.{rst, is_reset, SYN}
 use Rattle.segment.specs.declared.Segment.{Segment}
 use Rattle.connection.specs.Stages.{life_of}
-use Rattle.connection.specs.Decision.{verdict_on, verdict_number, passed, opened}
+use Rattle.connection.specs.Decision.{pass, verdict_on, verdict_number, passed, opened}
 use Rattle.connection.specs.declared.Connection.{Connection}
-use Rattle.connection.specs.declared.Verdict.TheVariants.{Pass}
 use Rattle.rows.specs.Rows as rows
 use Rattle.rows.specs.Rows.{Ask, is_opening, Entry, View, free_entry, clock_used, sender_of, entry_with, entry_after, opening_entry, filter, answer_of}
 use Rattle.rows.specs.Connections.{connections}
-use Rattle.rows.specs.declared.Found.{Found}
-use Rattle.rows.specs.declared.Found.TheVariants.{At, Nothing}
 use Rattle.rows.proofs.Rows.{sender_known, on_segment-by-search, on_entry-by-verdict, unmatched-answer, answer-by-verdict, found-live}
 use Rattle.history.specs.Numbers.{on_ring}
 use Rattle.history.specs.History.{LineSegment, numbers_of, fins_of, stage_of, placed, judge, Holds, Placeable}
@@ -107,7 +105,7 @@ module _
   verdict-same : verdict_on c i g ≡ judge h (placed h i g)
   verdict-same = judged c h holds reached (record { sender = i; segment = g; now = 0 }) record { sender_known = known; placeable = placeable }
 
-  passed-stands : (now : ℕ) → verdict_on c i g ≡ Pass → (rst g.flags ≡ 1 → 2 ≤ c.stage) → Stands (after-c now) (after-h now)
+  passed-stands : (now : ℕ) → verdict_on c i g ≡ pass → (rst g.flags ≡ 1 → 2 ≤ c.stage) → Stands (after-c now) (after-h now)
   passed-stands now passes kept =
       let after =
       pass-holds c h holds reached (record { sender = i; segment = g; now = now }) record { sender_known = known; placeable = placeable }
@@ -128,7 +126,7 @@ module _
       go (answered a turned) = omega (arith, holds.stage, a.stage)
 
   -- a pass frees both or neither
-  stage-same : (now : ℕ) → verdict_on c i g ≡ Pass → (passed c i g now).stage ≡ stage_of (placed h i g ∷ h)
+  stage-same : (now : ℕ) → verdict_on c i g ≡ pass → (passed c i g now).stage ≡ stage_of (placed h i g ∷ h)
   stage-same now passes = go (true-or-false frees)
     where
       frees : Bool
@@ -145,7 +143,7 @@ module _
           from-2 (λ (first : c.stage ≡ 1). false-true (sym not ∙ true-&& _ _ (eq-eqb _ _ first) (eq-eqb _ _ is_reset))) in
           ap (λ (x : Entry connections). x.connection.stage) (passed-stands now passes kept).is
 
-  after-stands : (now : ℕ) → verdict_on c i g ≡ Pass → Stands (entry_after connections e i g now) (entry_after histories f i g now)
+  after-stands : (now : ℕ) → verdict_on c i g ≡ pass → Stands (entry_after connections e i g now) (entry_after histories f i g now)
   unfolding entry_with
   after-stands now passes =
       when-both Stands _ _ _ _ _ _ (ap (λ (n : ℕ). n =ᵇ 0) (stage-same now passes)) (λ _. free-stands)
@@ -202,11 +200,11 @@ module _
   same_answer : answer_of connections (filter connections t a) ≡ answer_of histories (filter histories u a)
   same_answer = answer-alike Stands (filter connections t a) (filter histories u a) (same_outcome t u related a placeable)
 
-  module _ (p : ℕ) (match : rows.search histories u now a.side a.key ≡ At p) where
+  module _ (p : ℕ) (match : rows.search histories u now a.side a.key ≡ Some p) where
     answer-judged : answer_of connections (filter connections t a) ≡ verdict_number (judge (segments p) (placed (segments p) (i p) g))
     answer-judged =
         same_answer
-        ∙ ap (answer_of histories) (on_segment-by-search histories u now a.side a.key g (At p) match)
+        ∙ ap (answer_of histories) (on_segment-by-search histories u now a.side a.key g (Some p) match)
         ∙ ap (answer_of histories) (on_entry-by-verdict histories (u.entry p) p now a.side g (judge (segments p) (placed (segments p) (i p) g)) refl)
         ∙ answer-by-verdict histories (judge (segments p) (placed (segments p) (i p) g)) p now _
 
@@ -214,14 +212,14 @@ module _
     match-reached = (related.entries p).reached (omega (arith, (found-live histories u now a.side a.key g p match).1))
 
   answer-found :
-      (r : Found) → rows.search histories u now a.side a.key ≡ r → (n : ℕ) → answer_of connections (filter connections t a) ≡ n →
+      (r : Option ℕ) → rows.search histories u now a.side a.key ≡ r → (n : ℕ) → answer_of connections (filter connections t a) ≡ n →
       (n ≡ 14) ⊎ (n ≡ 15) → (p : ℕ) × FoundFromStage2 u a p
-  answer-found Nothing none n is ranged =
+  answer-found None none n is ranged =
       let least : answer_of connections (filter connections t a) ≤ 12 =
-      rw (same_answer ∙ ap (answer_of histories) (on_segment-by-search histories u now a.side a.key g Nothing none))
+      rw (same_answer ∙ ap (answer_of histories) (on_segment-by-search histories u now a.side a.key g None none))
       (unmatched-answer histories u now a.side a.key g) in
       absurd (⊎_elim (λ (e : n ≡ 14). omega (arith, least, is, e)) (λ (e : n ≡ 15). omega (arith, least, is, e)) ranged)
-  answer-found (At p) match n is ranged =
+  answer-found (Some p) match n is ranged =
       let number = sym (answer-judged p match) ∙ is in (
         p,
         record {

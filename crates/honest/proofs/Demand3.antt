@@ -6,18 +6,17 @@ use mathlib.Core.Bool.{Bool, true, false, ◌&&◌}
 use mathlib.Core.List.{List, [], ◌∷◌}
 use native.Mathlib.Omega.{arith}
 use borrow.Author.Tests.{eq-eqb, eqb-true, eqb-false, lt-ltb, ltb-true}
+use Rattle.std.specs.Prelude.{None, Some}
 use Rattle.choice.specs.Choice.{when◌then◌else◌, ◌<ᵇ◌, ◌=ᵇ◌}
 use Rattle.choice.proofs.Choice.{when-true, when-false, when-either, when-cases, when-=-not}
 use Rattle.choice.proofs.Tests.{false-true, true-or-false, lt-or-ge, true-&&, &&-true}
 use Rattle.segment.specs.Flags.{rst, is_reset, SYN}
 use Rattle.connection.specs.Stages.{life_of}
-use Rattle.connection.specs.Decision.{verdict_on, passed, opened, reset}
+use Rattle.connection.specs.Decision.{pass, verdict_on, passed, opened, reset}
 use Rattle.connection.specs.declared.Connection.{Connection}
-use Rattle.connection.specs.declared.Verdict.TheVariants.{Pass}
 use Rattle.rows.specs.Rows as rows
 use Rattle.rows.specs.Rows.{Ask, View, Entry, Passed as Passes, clock_used, sender_of, entry_with, entry_after, on_entry, filter, answer_of, place_by, after}
 use Rattle.rows.specs.Connections.{connections}
-use Rattle.rows.specs.declared.Found.TheVariants.{At, Nothing}
 use Rattle.rows.proofs.Rows.{on_segment-by-search, on_entry-by-verdict}
 use Rattle.history.specs.Numbers.{Numbers}
 use Rattle.history.specs.History.{LineSegment, on_wire, stage_of, Holds, Formed}
@@ -267,7 +266,7 @@ module _ (M : Machine) (Sound : M.State → Type 0) (keeps : KeepsTo M Sound) (s
       -- the opening
       pub opening-kept :
           a.segment ≡ on_wire p → AskOf P 0 a → p.from ≡ 0 → p.flags ≡ SYN → Formed p → p.start ≡ P.start 0 → t.history ≡ [] →
-          rows.search connections v (used a) a.side a.key ≡ Nothing →
+          rows.search connections v (used a) a.side a.key ≡ None →
           Table-kept (after_segment M t q (M.run t.state q).place p)
       opening-kept brings asked-0 opener a-syn formed begins none unfound =
           let made = opening-made P known v sound-before a asked-0 unfound answer_0 in
@@ -285,7 +284,7 @@ module _ (M : Machine) (Sound : M.State → Type 0) (keeps : KeepsTo M Sound) (s
       -- a reset on the live entry: from stage 2 on what it leaves holds the history with it on top, in stage 1 it frees
       pub reset-kept :
           (c : Connection) (al : Alive t c) → rst a.segment.flags ≡ 1 → rst p.flags ≡ 1 →
-          ((r : ℕ) → rows.search connections v (used a) a.side a.key ≡ At r → (now : ℕ) (entry : Entry connections) →
+          ((r : ℕ) → rows.search connections v (used a) a.side a.key ≡ Some r → (now : ℕ) (entry : Entry connections) →
           filter connections v a ≡ Passes r now entry → r ≡ al.place) →
           t.opening_seen ≡ true →
           Table-kept (after_segment M t q t.place p)
@@ -342,7 +341,7 @@ module _ (M : Machine) (Sound : M.State → Type 0) (keeps : KeepsTo M Sound) (s
     module _
         (p : LineSegment) (a : Ask) (read : M.reads q ≡ asks a) (brings : a.segment ≡ on_wire p) (asked-p : AskOf P p.from a)
         (no_reset : NoReset p) (c : Connection) (al : Alive t c) (live : Live M t q)
-        (verdict : verdict_on c p.from (on_wire p) ≡ Pass) where
+        (verdict : verdict_on c p.from (on_wire p) ≡ pass) where
       abbrev left-entry : Entry connections
       left-entry = ours P (passed c p.from (on_wire p) (used a))
 
@@ -355,7 +354,7 @@ module _ (M : Machine) (Sound : M.State → Type 0) (keeps : KeepsTo M Sound) (s
           let sender : sender_of connections (ours P c) a.side ≡ p.from = found.1 in
           on_segment-by-search connections v now a.side a.key a.segment _ found.0
           ∙ ap (λ (e : Entry connections). on_entry connections e al.place now a.side a.segment) al.ours.there
-          ∙ on_entry-by-verdict connections (ours P c) al.place now a.side a.segment Pass (rw (sender, brings) verdict)
+          ∙ on_entry-by-verdict connections (ours P c) al.place now a.side a.segment pass (rw (sender, brings) verdict)
           ∙ ap (Passes al.place now) ((λ n. entry_after connections (ours P c) (sender n) (brings n) now) ∙ when-=-not _ _ (in-use-stage _ in_use))
 
       answer-is-0 : (M.run t.state q).answer ≡ 0
@@ -529,7 +528,7 @@ module _ (M : Machine) (Sound : M.State → Type 0) (keeps : KeepsTo M Sound) (s
           place ∙ found-place P v M.number al.place a found answer ∙ al.numbered,
           record {
             table = reset-kept (told M s₀ L) inv.table q p a r.arrives.brings passed c al is_reset is_reset
-                (λ at found-there now entry left_there. let same : At at ≡ At al.place = sym found-there ∙ found in cc) r.after_opening;
+                (λ at found-there now entry left_there. let same : Some at ≡ Some al.place = sym found-there ∙ found in cc) r.after_opening;
             protocol = protocol-after q (arrival k p) k p L inv r.arrives.sent passed (told M s₀ L).place;
           },
         )

@@ -3,17 +3,15 @@ use Prim.Native.Nat.{ℕ, ◌<◌, max}
 use mathlib.Core.Path.{◌≡◌, refl, ap, subst, ◌∙◌}
 use mathlib.Core.Bool.{true}
 use native.Mathlib.Omega.{arith}
+use Rattle.std.specs.Prelude.{Option, Some, None, Ok, Err}
 use Rattle.choice.specs.Choice.{◌=ᵇ◌}
 use Rattle.choice.proofs.Choice.{when-both}
 use Rattle.address.specs.declared.Flow.{Flow}
 use Rattle.segment.specs.declared.Segment.{Segment}
-use Rattle.connection.specs.declared.Verdict.{Verdict}
-use Rattle.connection.specs.declared.Verdict.TheVariants.{Pass, NotAllowed, SequenceMissed, AckMissed}
+use Rattle.connection.specs.Decision.{Verdict, pass}
 use Rattle.rows.specs.Places.{first_from}
 use Rattle.rows.specs.Rows as rows
 use Rattle.rows.specs.Rows.{Bodies, Ask, is_opening, Entry, View, Outcome, Blocked, Passed, free_entry, from_opener, from_answerer, live_match, vacant, lowest_vacant, sender_of, entry_after, by_verdict, on_entry, opening_entry, on_vacant, unmatched, on_found, on_segment, clock_used, filter, answer_of, place_by, after}
-use Rattle.rows.specs.declared.Found.{Found}
-use Rattle.rows.specs.declared.Found.TheVariants.{At, Nothing}
 use Rattle.rows.proofs.Places.{first-same}
 use Rattle.rows.proofs.Rows.{sender_known, found-live}
 
@@ -33,7 +31,7 @@ module _ {B C : Bodies} where
         B.verdict e.connection i g ≡ C.verdict f.connection i g
     pub passed :
         {e : Entry B} {f : Entry C} (i : ℕ) (g : Segment) (now : ℕ) → R e f → 0 < B.deadline e.connection → i < 2 → Fit g →
-        B.verdict e.connection i g ≡ Pass →
+        B.verdict e.connection i g ≡ pass →
         R (entry_after B e i g now) (entry_after C f i g now)
 
   module _ (R : Entry B → Entry C → Type 0) where
@@ -100,12 +98,10 @@ module _ {B C : Bodies} where
           ∙ ap (first_from (λ p. vacant C now (u.entry p)) 0) related.places
 
       by-verdict-same :
-          (w : Verdict) (p : ℕ) (e : Entry B) (f : Entry C) → (w ≡ Pass → R e f) →
+          (w : Verdict) (p : ℕ) (e : Entry B) (f : Entry C) → (w ≡ pass → R e f) →
           Alike R (by_verdict B w (Passed p now e)) (by_verdict C w (Passed p now f))
-      by-verdict-same Pass p e f r = (refl, refl, r refl)
-      by-verdict-same NotAllowed p e f r = (refl, refl)
-      by-verdict-same SequenceMissed p e f r = (refl, refl)
-      by-verdict-same AckMissed p e f r = (refl, refl)
+      by-verdict-same (Ok x) p e f r = (refl, refl, r refl)
+      by-verdict-same (Err reason) p e f r = (refl, refl)
 
       entry-same :
           (p : ℕ) (e : Entry B) (f : Entry C) → R e f → 0 < B.deadline e.connection →
@@ -123,19 +119,19 @@ module _ {B C : Bodies} where
           when-both (Alike R) (is_opening side g) (is_opening side g) _ _ _ _ refl
           (λ opening. rw (← lowest-same) (go opening (lowest_vacant B v now))) (λ _. (refl, refl))
         where
-          go : is_opening side g ≡ true → (r : Found) → Alike R (on_vacant B r now side k g) (on_vacant C r now side k g)
-          go opening Nothing = (refl, refl)
-          go opening (At p) = (refl, refl, agree.made now side k g fit opening)
+          go : is_opening side g ≡ true → (r : Option ℕ) → Alike R (on_vacant B r now side k g) (on_vacant C r now side k g)
+          go opening None = (refl, refl)
+          go opening (Some p) = (refl, refl, agree.made now side k g fit opening)
 
       pub segment-same : Alike R (on_segment B v now side k g) (on_segment C u now side k g)
       unfolding on_segment
       segment-same = rw (← search-same) (go (rows.search B v now side k) refl)
         where
-          go : (r : Found) → rows.search B v now side k ≡ r → Alike R (on_found B r v now side k g) (on_found C r u now side k g)
-          go (At p) found =
+          go : (r : Option ℕ) → rows.search B v now side k ≡ r → Alike R (on_found B r v now side k g) (on_found C r u now side k g)
+          go (Some p) found =
               let f = found-live B v now side k g p found in
               entry-same p _ _ (related.entries p) (omega (arith, f.1))
-          go Nothing none = unmatched-same
+          go None none = unmatched-same
 
     pub filter_same :
         (v : View B) (u : View C) → Related R v u → (a : Ask) → Fit a.segment → Alike R (filter B v a) (filter C u a)

@@ -18,11 +18,10 @@ use Rattle.address.specs.declared.Flow.{Flow}
 use Rattle.segment.specs.Flags.{rst}
 use Rattle.segment.specs.declared.Segment.{Segment}
 use Rattle.connection.specs.Ends.{zeros, unheard, begun, sent, granted, ends_after}
-use Rattle.connection.specs.Decision.{verdict_on, free, opened, repeated, answered, carried, reset, passed}
+use Rattle.connection.specs.Decision.{pass, verdict_on, free, opened, repeated, answered, carried, reset, passed}
 use Rattle.connection.specs.Sound.{sound_connection}
 use Rattle.connection.specs.declared.Connection.{Connection}
 use Rattle.connection.specs.declared.End.{End}
-use Rattle.connection.specs.declared.Verdict.TheVariants.{Pass}
 use Rattle.connection.proofs.Sound.{sound-facts, later-sound}
 use Rattle.rows.specs.Rows.{Ask, Entry, View, Outcome, Blocked, Passed, free_entry, entry_with, entry_after, opening_entry, clock_used, filter, after}
 use Rattle.rows.specs.Connections.{connections}
@@ -149,7 +148,7 @@ module _ (v : View connections) (a : Ask) where
   -- what a pass leaves of a live entry is free or sound
   passed_entry :
       (e : Entry connections) (i : ℕ) → i < 2 → SoundEntry v.clock e → Placeable g → now < e.connection.deadline →
-      verdict_on e.connection i g ≡ Pass →
+      verdict_on e.connection i g ≡ pass →
       SoundEntry now (entry_after connections e i g now)
   unfolding entry_with
   passed_entry e i known s placeable live verdict =

@@ -5,6 +5,7 @@ use mathlib.Core.Logic.{◌⊎◌, inl, inr, ⊎_elim}
 use mathlib.Core.Bool.{Bool, true, false}
 use native.Mathlib.Omega.{arith}
 use borrow.Author.Tests.{eq-eqb, ne_eqb, eqb-true}
+use Rattle.std.specs.Prelude.{None, Some}
 use Rattle.choice.specs.Choice.{when◌then◌else◌, ◌=ᵇ◌}
 use Rattle.choice.proofs.Choice.{when-true, when-false, when-either, when-cases, when-=, when-=-not}
 use Rattle.choice.proofs.Tests.{&&-true, false-true}
@@ -18,8 +19,7 @@ use Rattle.connection.proofs.Sound.{sound-facts}
 use Rattle.rows.specs.Rows as rows
 use Rattle.rows.specs.Rows.{Ask, Entry, View, Passed, live_match, sender_of, entry_with, entry_after, opening_entry, clock_used, filter, answer_of, place_by, after}
 use Rattle.rows.specs.Connections.{connections}
-use Rattle.rows.specs.declared.Found.TheVariants.{At, Nothing}
-use Rattle.rows.proofs.Places.{nothing-at, found-by, none-if-nothing}
+use Rattle.rows.proofs.Places.{found-by, none-if-nothing}
 use Rattle.rows.proofs.Matches.{EndOf, matches, matches-end, end-matches, far-end, same_end, mutual-end, live-match, unfound-expired, expired-unfound}
 use Rattle.rows.proofs.Rows.{Comes, blocks, passes, makes, comes, pass-writes, pass-keeps}
 use Rattle.history.proofs.Pass.{passed-reset}
@@ -166,7 +166,7 @@ module _ (P : Pair) where
     -- an arrival finds the opening's place, as its end's
     pub arrival-found :
         (p i : ℕ) (c : Connection) (a : Ask) → OurEntry v p c → OthersExpired v p → AskOf i a → used a < c.deadline →
-        (rows.search connections v (used a) a.side a.key ≡ At p) × (sender_of connections (ours c) a.side ≡ i)
+        (rows.search connections v (used a) a.side a.key ≡ Some p) × (sender_of connections (ours c) a.side ≡ i)
     arrival-found p i c a o others asked Live-now = (
       found-by _ v.places 0 p (omega arith) (omega (arith, o.inside)) found-there (λ r low less. none_before r less),
       ours-sender c i a o.our-side asked,
@@ -190,7 +190,7 @@ module _ (P : Pair) where
       pub others : OthersExpired (after connections v (Passed place (used a) entry)) place
 
     pub opening-made :
-        (a : Ask) → AskOf 0 a → rows.search connections v (used a) a.side a.key ≡ Nothing →
+        (a : Ask) → AskOf 0 a → rows.search connections v (used a) a.side a.key ≡ None →
         answer_of connections (filter connections v a) ≡ 0 →
         Made a
     unfolding opening_entry opened
@@ -206,7 +206,7 @@ module _ (P : Pair) where
 
         go : Comes connections v (used a) a.side a.key a.segment (filter connections v a) → Asks 0 a → Made a
         go (blocks n is low high) _ = absurd (omega (arith, low, ap (answer_of connections) is, passed-0))
-        go (passes p is found _ _ _) _ = nothing-at p (sym none ∙ found)
+        go (passes p is found _ _ _) _ = cc
         go (makes p is _ room _) (as-answerer z _ _) = absurd (omega arith)
         go (makes p is _ room _) (as-opener _ s k) = record {
           place = p;
@@ -227,7 +227,7 @@ module _ (P : Pair) where
         later r inside r≠p m = omega (arith, others r inside r≠p m)
 
         -- ours would be found
-        ours-found : rows.search connections v (used a) a.side a.key ≡ Nothing → matches connections (ours c) a.side a.key ≡ true → ⊥
+        ours-found : rows.search connections v (used a) a.side a.key ≡ None → matches connections (ours c) a.side a.key ≡ true → ⊥
         ours-found none m =
             let unfound = none-if-nothing _ v.places 0 none p (omega arith) (omega (arith, o.inside)) in
             false-true (sym (rw o.there at unfound) ∙ live-match connections (used a) a.side a.key _ Live-now m)
@@ -268,7 +268,7 @@ module _ (P : Pair) where
 
     pub reset-on-ours :
         (p : ℕ) (c : Connection) (a : Ask) → OurEntry v p c → answer_of connections (filter connections v a) ≡ 0 →
-        ((q : ℕ) → rows.search connections v (used a) a.side a.key ≡ At q → (now : ℕ) (e : Entry connections) →
+        ((q : ℕ) → rows.search connections v (used a) a.side a.key ≡ Some q → (now : ℕ) (e : Entry connections) →
         filter connections v a ≡ Passed q now e → q ≡ p) →
         rst a.segment.flags ≡ 1 → 2 ≤ c.stage →
         filter connections v a ≡ Passed p (used a) (ours (reset c (used a)))
@@ -291,7 +291,7 @@ module _ (P : Pair) where
   -- a pass of a call that finds a place is at that place
   pub found-place :
       (v : View connections) (number : ℕ → ℕ) (p : ℕ) (a : Ask) →
-      rows.search connections v (clock_used connections v a) a.side a.key ≡ At p → answer_of connections (filter connections v a) ≡ 0 →
+      rows.search connections v (clock_used connections v a) a.side a.key ≡ Some p → answer_of connections (filter connections v a) ≡ 0 →
       place_by number (filter connections v a) ≡ number p
   found-place v number p a found passed-0 = go (comes connections v (clock_used connections v a) a.side a.key a.segment)
     where
@@ -299,9 +299,9 @@ module _ (P : Pair) where
           Comes connections v (clock_used connections v a) a.side a.key a.segment (filter connections v a) →
           place_by number (filter connections v a) ≡ number p
       go (blocks n is low high) = absurd (omega (arith, low, ap (answer_of connections) is, passed-0))
-      go (makes q is none _ _) = nothing-at p (sym none ∙ found)
+      go (makes q is none _ _) = cc
       go (passes q is found-q _ _ _) =
-          let both : At q ≡ At p = sym found-q ∙ found in
+          let both : Some q ≡ Some p = sym found-q ∙ found in
           let same : q ≡ p = cc in
           ap (place_by number) is ∙ ap number same
 

@@ -1,9 +1,8 @@
 -- Demand 2 over lists of calls: the table always is the histories' in numbers, and each answer and place is what the histories give.
 -- Lists are newest first: in a ∷ l, a comes after all of l.
-use Rattle.std.specs.Prelude.{ℕ, ◌≤◌, ◌≡◌, ◌⊎◌, List, [], ◌∷◌}
+use Rattle.std.specs.Prelude.{ℕ, ◌≤◌, ◌≡◌, ◌⊎◌, List, [], ◌∷◌, Some}
 use Rattle.rows.specs.Rows.{Bodies, Ask, View, Outcome, free_entry, match_of, sender_of, filter, answer_of, place_by, after}
 use Rattle.rows.specs.Connections.{connections}
-use Rattle.rows.specs.declared.Found.TheVariants.{At}
 use Rattle.history.specs.History.{stage_of, Placeable}
 use Rattle.history.specs.Places.{ByAllPlaces}
 use Rattle.honest.specs.Machine.{Reading, refused, asks, apart, Machine}
@@ -30,7 +29,7 @@ AllPlaceable (a ∷ l) = Placeable a.segment × AllPlaceable l
 
 -- a call has found the history at place p, from stage 2 on
 pub record FoundFromStage2 (v : View histories) (a : Ask) (p : ℕ) : Type 0 where
-  pub match : match_of histories v a ≡ At p
+  pub match : match_of histories v a ≡ Some p
   pub stage : 2 ≤ stage_of (v.entry p).connection.segments
 
 -- an answer speaks of all places on the line that have the segment's 32 bits

@@ -1,13 +1,12 @@
 -- Demand 3 (document 01, "Honest ends"; of resets and overtaken segments document 02, items 6 and 7): "a single claim about the list of events
 -- and not one for each call". Lists are newest first. Its sentences stand above what states them, in its order but for what needs another first.
-use Rattle.std.specs.Prelude.{ℕ, ◌+◌, ◌≤◌, ◌<◌, max, ◌≡◌, ◌⊎◌, Bool, true, false, ◌&&◌, List, [], ◌∷◌}
+use Rattle.std.specs.Prelude.{ℕ, ◌+◌, ◌≤◌, ◌<◌, max, ◌≡◌, ◌⊎◌, Bool, true, false, ◌&&◌, List, [], ◌∷◌, None}
 use Rattle.choice.specs.Choice.{when◌then◌else◌, ◌<ᵇ◌, ◌=ᵇ◌}
 use Rattle.segment.specs.Flags.{syn, rst, SYN, RST}
 use Rattle.connection.specs.Ends.{opener}
 use Rattle.connection.specs.Stages.{life_of}
 use Rattle.rows.specs.Rows.{Ask, match_of, nowhere}
 use Rattle.rows.specs.Connections.{connections}
-use Rattle.rows.specs.declared.Found.TheVariants.{Nothing}
 use Rattle.history.specs.History.{LineSegment, on_wire, stage_of}
 use Rattle.honest.specs.Machine.{Said, asks, Machine, clock_in, asks_here, brings_reset}
 use Rattle.honest.specs.Rules.{Label, opening, arrival, other, IsArrivalOf, Event, send, call, delivery, Pair, side_of, key_of, Sent, Arrived, highest_ack_at_sending, Honest, overtaking_allowance, MayOvertake}
@@ -130,7 +129,7 @@ module _ (M : Machine) where
       pub arrives : Arrives P k p q L
       pub by_opener : p.from ≡ opener
       pub is_syn : p.flags ≡ SYN
-      pub finds_none : match_of connections (M.view (told s₀ L).state) (bringing P p arrives.clock) ≡ Nothing
+      pub finds_none : match_of connections (M.view (told s₀ L).state) (bringing P p arrives.clock) ≡ None
       pub answered_0 : passes (told s₀ L) q ≡ true
 
   module _ (s₀ : M.State) where

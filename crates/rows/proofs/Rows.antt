@@ -5,18 +5,16 @@ use mathlib.Core.Logic.{◌⊎◌, inl, inr}
 use mathlib.Core.Bool.{Bool, true, false, and-false}
 use native.Mathlib.Omega.{arith}
 use borrow.Author.Tests.{le-leb, leb-true, eq-eqb, ne_eqb, eqb-true, ltb-true}
+use Rattle.std.specs.Prelude.{Option, Some, None, Ok, Err}
 use Rattle.choice.specs.Choice.{when◌then◌else◌, ◌<ᵇ◌, ◌=ᵇ◌}
 use Rattle.choice.proofs.Choice.{when-true, when-false, when-either, when-=, when-=-not}
 use Rattle.choice.proofs.Tests.{&&-true}
 use Rattle.address.specs.declared.Flow.{Flow}
 use Rattle.segment.specs.declared.Segment.{Segment}
-use Rattle.connection.specs.Decision.{verdict_number}
-use Rattle.connection.specs.declared.Verdict.{Verdict}
-use Rattle.connection.specs.declared.Verdict.TheVariants.{Pass, NotAllowed, SequenceMissed, AckMissed}
+use Rattle.connection.specs.Decision.{Verdict, pass, verdict_number}
+use Rattle.connection.specs.declared.SegmentError.TheVariants.{NotAllowed, SequenceMissed, AckMissed}
 use Rattle.rows.specs.Rows as rows
 use Rattle.rows.specs.Rows.{Bodies, Entry, View, Outcome, Blocked, Passed, is_opening, nowhere, free_entry, from_opener, from_answerer, live_match, vacant, VacantWhereFreeOrExpired, lowest_vacant, sender_of, SenderMatches, entry_with, entry_after, by_verdict, on_entry, opening_entry, on_vacant, unmatched, on_found, on_segment, answer_of, after}
-use Rattle.rows.specs.declared.Found.{Found}
-use Rattle.rows.specs.declared.Found.TheVariants.{At, Nothing}
 use Rattle.rows.proofs.Places.{found-passes, found-is-first}
 
 module _ (B : Bodies) where
@@ -69,16 +67,14 @@ module _ (B : Bodies) where
   unmatched-answer v now side k g =
       when-either (λ (o : Outcome B). answer_of B o ≤ 12) (is_opening side g) _ _ (taken (lowest_vacant B v now)) (omega arith)
     where
-      taken : (r : Found) → answer_of B (on_vacant B r now side k g) ≤ 12
-      taken Nothing = omega arith
-      taken (At p) = omega arith
+      taken : (r : Option ℕ) → answer_of B (on_vacant B r now side k g) ≤ 12
+      taken None = omega arith
+      taken (Some p) = omega arith
 
   -- a verdict's number is the answer
   pub answer-by-verdict : (w : Verdict) (p now : ℕ) (e : Entry B) → answer_of B (by_verdict B w (Passed p now e)) ≡ verdict_number w
-  answer-by-verdict Pass p now e = refl
-  answer-by-verdict NotAllowed p now e = refl
-  answer-by-verdict SequenceMissed p now e = refl
-  answer-by-verdict AckMissed p now e = refl
+  answer-by-verdict (Ok x) p now e = refl
+  answer-by-verdict (Err reason) p now e = refl
 
   module _ (v : View B) (now side : ℕ) (k : Flow) (g : Segment) where
     pub unmatched-not-from-side-0 : (side ≡ 0 → ⊥) → unmatched B v now side k g ≡ Blocked 11 nowhere
@@ -90,31 +86,31 @@ module _ (B : Bodies) where
     unmatched-not-syn h = rw (ne_eqb g.flags 2 h, and-false (side =ᵇ 0))
 
     pub unmatched-syn :
-        side ≡ 0 → g.flags ≡ 2 → (o : Found) → lowest_vacant B v now ≡ o →
+        side ≡ 0 → g.flags ≡ 2 → (o : Option ℕ) → lowest_vacant B v now ≡ o →
         unmatched B v now side k g ≡ on_vacant B o now side k g
     unfolding unmatched when◌then◌else◌
     unmatched-syn h f o e = rw (eq-eqb side 0 h, eq-eqb g.flags 2 f, e)
 
     pub on_segment-by-search :
-        (o : Found) → rows.search B v now side k ≡ o →
+        (o : Option ℕ) → rows.search B v now side k ≡ o →
         on_segment B v now side k g ≡ on_found B o v now side k g
     unfolding on_segment
-    on_segment-by-search o e = ap (λ (x : Found). on_found B x v now side k g) e
+    on_segment-by-search o e = ap (λ (x : Option ℕ). on_found B x v now side k g) e
 
     -- the search takes the first live match from place 0 up
     pub found_first :
-        (p : ℕ) → rows.search B v now side k ≡ At p →
+        (p : ℕ) → rows.search B v now side k ≡ Some p →
         (live_match B now side k (v.entry p) ≡ true) × ((q : ℕ) → q < p → live_match B now side k (v.entry q) ≡ false)
     found_first p found = found-is-first _ _ p found
 
     -- an opening takes the lowest place that is free or expired
     pub vacant-lowest :
-        (p : ℕ) → lowest_vacant B v now ≡ At p →
+        (p : ℕ) → lowest_vacant B v now ≡ Some p →
         (vacant B now (v.entry p) ≡ true) × ((q : ℕ) → q < p → vacant B now (v.entry q) ≡ false)
     vacant-lowest p found = found-is-first _ _ p found
 
     -- a match that is found is one of the places, and live
-    pub found-live : (p : ℕ) → rows.search B v now side k ≡ At p → (p < v.places) × (now < B.deadline (v.entry p).connection)
+    pub found-live : (p : ℕ) → rows.search B v now side k ≡ Some p → (p < v.places) × (now < B.deadline (v.entry p).connection)
     unfolding live_match
     found-live p found =
         let f = found-passes _ _ _ _ found in
@@ -126,42 +122,42 @@ module _ (B : Bodies) where
       blocks : (n : ℕ) → o ≡ Blocked n nowhere → 11 ≤ n → n ≤ 15 → Comes o
       passes :
           (p : ℕ) → o ≡ Passed p now (entry_after B (v.entry p) (sender_of B (v.entry p) side) g now) →
-          rows.search B v now side k ≡ At p → p < v.places → now < B.deadline (v.entry p).connection →
-          B.verdict (v.entry p).connection (sender_of B (v.entry p) side) g ≡ Pass →
+          rows.search B v now side k ≡ Some p → p < v.places → now < B.deadline (v.entry p).connection →
+          B.verdict (v.entry p).connection (sender_of B (v.entry p) side) g ≡ pass →
           Comes o
       makes :
-          (p : ℕ) → o ≡ Passed p now (opening_entry B now side k g) → rows.search B v now side k ≡ Nothing → p < v.places →
+          (p : ℕ) → o ≡ Passed p now (opening_entry B now side k g) → rows.search B v now side k ≡ None → p < v.places →
           is_opening side g ≡ true →
           Comes o
 
-    by-verdict : (p : ℕ) → rows.search B v now side k ≡ At p → Comes (on_entry B (v.entry p) p now side g)
+    by-verdict : (p : ℕ) → rows.search B v now side k ≡ Some p → Comes (on_entry B (v.entry p) p now side g)
     by-verdict p found = let f = found-live p found in go _ refl f.0 f.1
       where
         go :
             (w : Verdict) → B.verdict (v.entry p).connection (sender_of B (v.entry p) side) g ≡ w → p < v.places →
             now < B.deadline (v.entry p).connection →
             Comes (on_entry B (v.entry p) p now side g)
-        go Pass is inside live = passes p (on_entry-by-verdict (v.entry p) p now side g _ is) found inside live is
-        go NotAllowed is inside live = blocks 13 (on_entry-by-verdict (v.entry p) p now side g _ is) (omega arith) (omega arith)
-        go SequenceMissed is inside live = blocks 14 (on_entry-by-verdict (v.entry p) p now side g _ is) (omega arith) (omega arith)
-        go AckMissed is inside live = blocks 15 (on_entry-by-verdict (v.entry p) p now side g _ is) (omega arith) (omega arith)
+        go (Ok x) is inside live = passes p (on_entry-by-verdict (v.entry p) p now side g _ is) found inside live is
+        go (Err NotAllowed) is inside live = blocks 13 (on_entry-by-verdict (v.entry p) p now side g _ is) (omega arith) (omega arith)
+        go (Err SequenceMissed) is inside live = blocks 14 (on_entry-by-verdict (v.entry p) p now side g _ is) (omega arith) (omega arith)
+        go (Err AckMissed) is inside live = blocks 15 (on_entry-by-verdict (v.entry p) p now side g _ is) (omega arith) (omega arith)
 
-    by-vacant : rows.search B v now side k ≡ Nothing → Comes (unmatched B v now side k g)
+    by-vacant : rows.search B v now side k ≡ None → Comes (unmatched B v now side k g)
     unfolding unmatched when◌then◌else◌
     by-vacant none = go (is_opening side g) refl (lowest_vacant B v now) refl
       where
-        go : (t : Bool) → is_opening side g ≡ t → (r : Found) → lowest_vacant B v now ≡ r → Comes (unmatched B v now side k g)
+        go : (t : Bool) → is_opening side g ≡ t → (r : Option ℕ) → lowest_vacant B v now ≡ r → Comes (unmatched B v now side k g)
         go false closed r is = blocks 11 (rw closed) (omega arith) (omega arith)
-        go true opening Nothing is = blocks 12 (rw (is, opening)) (omega arith) (omega arith)
-        go true opening (At p) is = makes p (rw (is, opening)) none (omega (arith, (found-passes _ _ _ _ is).2)) opening
+        go true opening None is = blocks 12 (rw (is, opening)) (omega arith) (omega arith)
+        go true opening (Some p) is = makes p (rw (is, opening)) none (omega (arith, (found-passes _ _ _ _ is).2)) opening
 
     pub comes : Comes (on_segment B v now side k g)
     unfolding on_segment
     comes = go (rows.search B v now side k) refl
       where
-        go : (r : Found) → rows.search B v now side k ≡ r → Comes (on_found B r v now side k g)
-        go (At p) found = by-verdict p found
-        go Nothing none = by-vacant none
+        go : (r : Option ℕ) → rows.search B v now side k ≡ r → Comes (on_found B r v now side k g)
+        go (Some p) found = by-verdict p found
+        go None none = by-vacant none
 
   -- What an outcome leaves
 

@@ -1,5 +1,5 @@
 -- Tables of three places: a call for each row, and what passes leave there.
-use Rattle.std.specs.Prelude.{ℕ, zero, suc, ◌+◌, ◌≡◌, [], ◌∷◌}
+use Rattle.std.specs.Prelude.{ℕ, zero, suc, ◌+◌, ◌≡◌, [], ◌∷◌, Some, None}
 use Rattle.address.specs.Flows.{dotted, endpoint, between, reversed, no_flow}
 use Rattle.address.specs.declared.Flow.{Flow}
 use Rattle.segment.specs.Flags.{SYN, ACK, ACK+RST}
@@ -9,7 +9,6 @@ use Rattle.connection.specs.declared.Connection.{Connection}
 use Rattle.connection.specs.declared.End.{End}
 use Rattle.rows.specs.Rows.{Ask, Entry, View, match_of, filter, answer_of, after, place_by}
 use Rattle.rows.specs.Connections.{connections}
-use Rattle.rows.specs.declared.Found.TheVariants.{At, Nothing}
 
 -- Tables
 
@@ -88,9 +87,9 @@ left v a = after connections v (filter connections v a)
 
 pub record RowsGive : Type 0 where
   -- the first live match from place 0 up, by the clock used
-  pub match_first : match_of connections busy (ten_octets 100) ≡ At 1
-  pub match_expired : match_of connections busy (ten_octets 101) ≡ Nothing
-  pub match_header_clock : match_of connections stale (ten_octets 80) ≡ Nothing
+  pub match_first : match_of connections busy (ten_octets 100) ≡ Some 1
+  pub match_expired : match_of connections busy (ten_octets 101) ≡ None
+  pub match_header_clock : match_of connections stale (ten_octets 80) ≡ None
   -- 11, also where the table is full: no live connection matches, and it is not SYN without ACK from side 0
   pub row_11_flags : answer full (call 0 100 stranger ACK 7 1 0 1000) ≡ 11
   pub row_11_side : answer full (call 1 100 stranger SYN 7 1 0 1000) ≡ 11

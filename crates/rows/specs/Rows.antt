@@ -1,18 +1,14 @@
 -- Rows 11 to 15 and 0 of document 01, said once: over a view of a table, whatever its bytes, whatever the size of an address, and
 -- whatever an entry keeps of its connection. The call on bytes and the theorems both cite them.
-use Rattle.std.specs.Prelude.{ℕ, ◌-◌, ◌≤◌, max, ◌≡◌, ◌⊎◌, Bool, true, ◌&&◌, ◌||◌}
+use Rattle.std.specs.Prelude.{ℕ, ◌-◌, ◌≤◌, max, ◌≡◌, ◌⊎◌, Bool, true, ◌&&◌, ◌||◌, Option, Some, None, Ok, Err}
 use Rattle.choice.specs.Choice.{when◌then◌else◌, ◌<ᵇ◌, ◌≤ᵇ◌, ◌=ᵇ◌}
 use Rattle.address.specs.Flows.{same_flow, reversed, no_flow}
 use Rattle.address.specs.declared.Flow.{Flow}
 use Rattle.segment.specs.Flags.{SYN}
 use Rattle.segment.specs.declared.Segment.{Segment}
 use Rattle.connection.specs.Ends.{opener, answerer}
-use Rattle.connection.specs.Decision.{verdict_number}
-use Rattle.connection.specs.declared.Verdict.{Verdict}
-use Rattle.connection.specs.declared.Verdict.TheVariants.{Pass, NotAllowed, SequenceMissed, AckMissed}
+use Rattle.connection.specs.Decision.{Verdict, error_number}
 use Rattle.rows.specs.Places.{first_from}
-use Rattle.rows.specs.declared.Found.{Found}
-use Rattle.rows.specs.declared.Found.TheVariants.{At, Nothing}
 
 -- What an entry keeps of its connection beside addresses and ports
 pub record Bodies : Type 1 where
@@ -94,11 +90,11 @@ module _ (B : Bodies) where
   live_match now side k e = live now e && (from_opener e side k || from_answerer e side k)
 
   -- "The search takes the first live match from place 0 up."
-  abbrev pub search : View → ℕ → ℕ → Flow → Found
+  abbrev pub search : View → ℕ → ℕ → Flow → Option ℕ
   search v now side k = first_from (λ p. live_match now side k (v.entry p)) 0 v.places
 
   -- the live match that a call finds, if any
-  abbrev pub match_of : View → Ask → Found
+  abbrev pub match_of : View → Ask → Option ℕ
   match_of v a = search v (clock_used v a) a.side a.key
 
   -- free or expired, as a free entry's deadline is 0
@@ -113,7 +109,7 @@ module _ (B : Bodies) where
       × ((e ≡ free_entry) ⊎ (B.deadline e.connection ≤ now) → vacant now e ≡ true)
 
   -- "An opening takes the lowest place that is free or expired."
-  abbrev pub lowest_vacant : View → ℕ → Found
+  abbrev pub lowest_vacant : View → ℕ → Option ℕ
   lowest_vacant v now = first_from (λ p. vacant now (v.entry p)) 0 v.places
 
   -- Rows 11, 12 and 0: no live connection matches
@@ -123,9 +119,9 @@ module _ (B : Bodies) where
   opening_entry now side k g = record { key = k; connection = B.opened side g now }
 
   -- 12: such a SYN, but no place is free or expired; 0: the lowest that is
-  abbrev pub on_vacant : Found → ℕ → ℕ → Flow → Segment → Outcome
-  on_vacant Nothing now side k g = Blocked 12 nowhere
-  on_vacant (At p) now side k g = Passed p now (opening_entry now side k g)
+  abbrev pub on_vacant : Option ℕ → ℕ → ℕ → Flow → Segment → Outcome
+  on_vacant None now side k g = Blocked 12 nowhere
+  on_vacant (Some p) now side k g = Passed p now (opening_entry now side k g)
 
   -- 11: it is not SYN without ACK from side 0
   unfoldable pub unmatched : View → ℕ → ℕ → Flow → Segment → Outcome
@@ -153,10 +149,8 @@ module _ (B : Bodies) where
 
   -- 13, 14 and 15, or the pass
   abbrev pub by_verdict : Verdict → Outcome → Outcome
-  by_verdict NotAllowed pass = Blocked (verdict_number NotAllowed) nowhere
-  by_verdict SequenceMissed pass = Blocked (verdict_number SequenceMissed) nowhere
-  by_verdict AckMissed pass = Blocked (verdict_number AckMissed) nowhere
-  by_verdict Pass pass = pass
+  by_verdict (Ok x) pass = pass
+  by_verdict (Err e) pass = Blocked (error_number e) nowhere
 
   -- on the entry at place p
   unfoldable pub on_entry : Entry → ℕ → ℕ → ℕ → Segment → Outcome
@@ -165,9 +159,9 @@ module _ (B : Bodies) where
 
   -- Rows 11 to 15 and 0, by the clock used
 
-  abbrev pub on_found : Found → View → ℕ → ℕ → Flow → Segment → Outcome
-  on_found Nothing v now side k g = unmatched v now side k g
-  on_found (At p) v now side k g = on_entry (v.entry p) p now side g
+  abbrev pub on_found : Option ℕ → View → ℕ → ℕ → Flow → Segment → Outcome
+  on_found None v now side k g = unmatched v now side k g
+  on_found (Some p) v now side k g = on_entry (v.entry p) p now side g
 
   unfoldable pub on_segment : View → ℕ → ℕ → Flow → Segment → Outcome
   on_segment v now side k g = on_found (search v now side k) v now side k g

@@ -1,8 +1,2 @@
-// Rows 11 to 15 and 0, definitions and laws; of code, what a search over places of the table gives.
+// Rows 11 to 15 and 0: definitions and laws only.
 #![tactic(auto)]
-
-#[derive(Clone, Copy)]
-pub enum Found {
-    At(usize),
-    Nothing,
-}
