@@ -1,69 +1,42 @@
--- Laws of a match: the side decides, or the addresses and ports; and a match is live if it is not expired.
-use Prim.Native.Nat.{ℕ, ◌+◌, ◌-◌}
-use mathlib.Core.Path.{◌≡◌, refl, sym, ap, ◌∙◌}
-use mathlib.Core.Bool.{Bool, true, false, ◌||◌, and-true, and-false}
+-- Laws of a match: addresses and ports decide, or the side; and a match is live if it is not expired.
+use Prim.Native.Nat.{ℕ, ◌-◌}
+use mathlib.Core.Path.{◌≡◌, sym, ap, ◌∙◌}
+use mathlib.Core.Bool.{Bool, not, ◌&&◌, ◌||◌, and_comm}
+use mathlib.Core.Logic.{⊎_elim}
 use mathlib.Core.List.{List}
-use lib.ListN.{get_or}
-use borrow.Author.Tests.{lt-ltb, le-ltb, leb-true, leb-false}
-use Rattle.choice.specs.Choice.{◌=ᵇ◌}
+use borrow.Author.Tests.{lt-ltb, le-ltb, le-leb, lt-leb}
+use Rattle.choice.specs.Choice.{◌=ᵇ◌, ◌<ᵇ◌, ◌≤ᵇ◌}
+use Rattle.choice.proofs.Tests.{lt-or-ge}
 use Rattle.address.specs.Flows.{same_flow, reversed}
 use Rattle.address.specs.declared.Version.{Version}
 use Rattle.address.specs.declared.Flow.{Flow}
 use Rattle.rows.specs.Rows as rows
 use Rattle.rows.specs.Rows.{from_opener, from_answerer, live_match, vacant}
 use Rattle.rows.specs.Connections.{connections}
-use Rattle.entry.specs.Layout.{place_at, entry_at, connection_at}
+use Rattle.entry.specs.Layout.{place_at, entry_at}
 use Rattle.entry.specs.Viewed.{viewed}
 use Rattle.entry.specs.declared.Entry.{Entry}
 
+less-if-not-most : (a b : ℕ) → (a <ᵇ b) ≡ not (b ≤ᵇ a)
+less-if-not-most a b = ⊎_elim (λ h. rw (lt-ltb a b h, lt-leb b a h)) (λ h. rw (le-ltb a b h, le-leb b a h)) (lt-or-ge a b)
+
 module _ (e : Entry) (side : ℕ) (k : Flow) where
-  pub opener-not-by-key : same_flow k e.key ≡ false → from_opener connections (viewed e) side k ≡ false
+  pub opener_by_key : from_opener connections (viewed e) side k ≡ same_flow k e.key && (side =ᵇ e.connection.side)
   unfolding from_opener
-  opener-not-by-key h = rw h (and-false (side =ᵇ e.connection.side))
+  opener_by_key = and_comm (side =ᵇ e.connection.side) (same_flow k e.key)
 
-  pub opener-by-side : same_flow k e.key ≡ true → from_opener connections (viewed e) side k ≡ (side =ᵇ e.connection.side)
-  unfolding from_opener
-  opener-by-side h = rw h (and-true (side =ᵇ e.connection.side))
-
-  pub answerer-not-by-key : same_flow (reversed k) e.key ≡ false → from_answerer connections (viewed e) side k ≡ false
+  pub answerer_by_key : from_answerer connections (viewed e) side k ≡ same_flow (reversed k) e.key && (side =ᵇ 1 - e.connection.side)
   unfolding from_answerer
-  answerer-not-by-key h = rw h (and-false (side =ᵇ 1 - e.connection.side))
-
-  pub answerer-by-side : same_flow (reversed k) e.key ≡ true → from_answerer connections (viewed e) side k ≡ (side =ᵇ 1 - e.connection.side)
-  unfolding from_answerer
-  answerer-by-side h = rw h (and-true (side =ᵇ 1 - e.connection.side))
+  answerer_by_key = and_comm (side =ᵇ 1 - e.connection.side) (same_flow (reversed k) e.key)
 
   -- a match is live if it is not expired
-  module _ (clock : ℕ) where
-    pub not-live-by-expired : vacant connections clock (viewed e) ≡ true → live_match connections clock side k (viewed e) ≡ false
-    unfolding live_match vacant
-    not-live-by-expired h = rw (le-ltb _ _ (leb-true _ _ h))
-
-    pub live-by-match :
-        vacant connections clock (viewed e) ≡ false →
-        live_match connections clock side k (viewed e) ≡ (from_opener connections (viewed e) side k || from_answerer connections (viewed e) side k)
-    unfolding live_match vacant
-    live-by-match h = rw (lt-ltb _ _ (leb-false _ _ h))
-
--- the entry at an offset, its side read from its bytes
-module _ (v : Version) (t : List ℕ) (at side : ℕ) (k : Flow) where
-  side-at : (entry_at v t at).connection.side ≡ get_or t (at + 1) 0
-  unfolding entry_at connection_at
-  side-at = refl
-
-  pub opener-by-side-at :
-      same_flow k (entry_at v t at).key ≡ true → (side =ᵇ get_or t (at + 1) 0) ≡ from_opener connections (viewed (entry_at v t at)) side k
-  opener-by-side-at h = sym (opener-by-side (entry_at v t at) side k h ∙ ap (λ (s : ℕ). side =ᵇ s) side-at)
-
-  pub answerer-by-side-at :
-      (other : ℕ) → other ≡ 1 - get_or t (at + 1) 0 → same_flow (reversed k) (entry_at v t at).key ≡ true →
-      (side =ᵇ other) ≡ from_answerer connections (viewed (entry_at v t at)) side k
-  answerer-by-side-at other o h =
-      ap (λ (s : ℕ). side =ᵇ s) (o ∙ ap (λ (s : ℕ). 1 - s) (sym side-at)) ∙ sym (answerer-by-side (entry_at v t at) side k h)
-
-  -- the key that was asked for is the flow reversed
-  pub back-test : (back : Flow) (r : Bool) → back ≡ reversed k → r ≡ same_flow back (entry_at v t at).key → same_flow (reversed k) (entry_at v t at).key ≡ r
-  back-test back r turned e = sym (e ∙ ap (λ (b : Flow). same_flow b (entry_at v t at).key) turned)
+  pub live_if_not_vacant :
+      (clock : ℕ) →
+      live_match connections clock side k (viewed e) ≡
+      not (vacant connections clock (viewed e)) && (from_opener connections (viewed e) side k || from_answerer connections (viewed e) side k)
+  unfolding live_match vacant
+  live_if_not_vacant clock = let matches = from_opener connections (viewed e) side k || from_answerer connections (viewed e) side k in
+      ap (λ (live : Bool). live && matches) (less-if-not-most clock e.connection.deadline)
 
 -- a test of the entry at a place, by the offset where the entry begins
 pub tested_at :

@@ -2,107 +2,35 @@
 // "The table").
 #![tactic(auto)]
 
-ghost use Rattle.std.specs.Prelude.{◌≡◌, ◌+◌, ◌-◌, ◌*◌, ◌^◌, ◌≤◌, ◌<◌, length};
+ghost use Rattle.std.specs.Prelude.{◌≡◌, ◌+◌, ◌-◌, ◌*◌, ◌%◌, ◌^◌, ◌≤◌, ◌<◌, length, ℕ};
 ghost use Rattle.octets.specs.BigEndian.{octets_of};
 ghost use Rattle.octets.specs.Overwrite.{overwrite};
-ghost use Rattle.address.specs.Flows.{same_flow, reversed};
 ghost use Rattle.connection.specs.Sound.{sound_end, sound_unanswered};
 ghost use Rattle.rows.specs.Rows.{from_opener, from_answerer, live_match, vacant, search, lowest_vacant};
 ghost use Rattle.rows.specs.Connections.{connections};
-ghost use Rattle.entry.specs.Layout.{header_size, rest_size, entry_size, place_at, entry_at};
+ghost use Rattle.entry.specs.Layout.{header_size, place_at, entry_at};
 ghost use Rattle.entry.specs.Viewed.{viewed};
-ghost use Rattle.table.specs.Table.{clock_at, header_clock, version_byte, sound_header, sound_table, view_of};
-ghost use Rattle.table.specs.Words.{TestsZeros, sound_word, sound_numbers, sound_entry};
+ghost use Rattle.table.specs.Table.{clock_at, header_clock, version_byte, zeros_at, sound_header, sound_table, view_of};
+ghost use Rattle.table.specs.First.{IsFirstPlace};
+ghost use Rattle.table.specs.Words.{sound_word, sound_numbers, sound_entry};
 
-use address::{Flow, Version, flow_is, reversed};
-use connection::End;
-use entry::{
-    ANSWERER, OPENER, SIDE, addresses_at, entry_size, load_end, numbers_at, place_at, ports_at,
-    rest_at,
-};
-use octets::{little32, read64, write64};
-use rows::Found;
+use address::{Flow, Version};
+use connection::{Clock, End};
+use entry::{Entry, Place};
+use octets::{BigEndianNumber, little32};
 use serial::{OctetCount, SeqNum};
 
-// Octets in whole words
-
-// Bitwise or, 0 exactly where both numbers are: several zero tests then cost one branch.
-fn either(a: u64, b: u64) -> u64
-    ensures { (a ≤ result) × (b ≤ result) × (a ≡ 0 → b ≡ 0 → result ≡ 0) }
+// Whether octets are all zero, in words of eight. The words are combined without an early exit, so that the compiler takes two at a time;
+// by single octets the scan of free places takes 1.4 times as long.
+fn all_zero(octets: &[u8]) -> bool
+    requires { length octets.now % 8 ≡ 0 }
+    ensures { result ≡ zeros_at octets.now 0 (length octets.now) }
 {
-    a | b
-}
-
-// The four octets at an offset as one number, 0 exactly where each of them is.
-fn any4(table: &[u8], at: usize) -> u64
-    requires { at + 4 ≤ length table.now }
-    ensures { TestsZeros table.now at 4 result }
-{
-    little32(table, at) as u64
-}
-
-// The eight octets at an offset as one number, 0 exactly where each of them is. Least significant first, which is one load of the
-// machine; a zero test doesn't ask for the order.
-fn any8(table: &[u8], at: usize) -> u64
-    requires { at + 8 ≤ length table.now }
-    ensures { TestsZeros table.now at 8 result }
-{
-    little32(table, at) as u64 + little32(table, at + 4) as u64 * 4294967296
-}
-
-// The same of more octets: a number for each half, then one of both.
-fn any16(table: &[u8], at: usize) -> u64
-    requires { at + 16 ≤ length table.now }
-    ensures { TestsZeros table.now at 16 result }
-{
-    either(any8(table, at), any8(table, at + 8))
-}
-
-fn any32(table: &[u8], at: usize) -> u64
-    requires { at + 32 ≤ length table.now }
-    ensures { TestsZeros table.now at 32 result }
-{
-    either(any16(table, at), any16(table, at + 16))
-}
-
-// The header's zeros up to its last word.
-fn any52(table: &[u8], at: usize) -> u64
-    requires { at + 52 ≤ length table.now }
-    ensures { TestsZeros table.now at 52 result }
-{
-    either(
-        any32(table, at),
-        either(any16(table, at + 32), any4(table, at + 48)),
-    )
-}
-
-fn any64(table: &[u8], at: usize) -> u64
-    requires { at + 64 ≤ length table.now }
-    ensures { TestsZeros table.now at 64 result }
-{
-    either(any32(table, at), any32(table, at + 32))
-}
-
-// The same of a whole entry of either version.
-fn any_entry(version: Version, table: &[u8], at: usize) -> u64
-    requires { at + entry_size version ≤ length table.now }
-    ensures { TestsZeros table.now at (entry_size version) result }
-{
-    match version {
-        Version::V4 => any64(table, at),
-        Version::V6 => either(any64(table, at), any32(table, at + 64)),
+    let mut any = 0;
+    for word in octets.chunks_exact(8) {
+        any |= u64::read_be(word, 0);
     }
-}
-
-// The same of the zeros that end an entry.
-fn any_rest(version: Version, table: &[u8], at: usize) -> u64
-    requires { at + rest_size version ≤ length table.now }
-    ensures { TestsZeros table.now at (rest_size version) result }
-{
-    match version {
-        Version::V4 => any16(table, at),
-        Version::V6 => either(any16(table, at), any8(table, at + 16)),
-    }
+    any == 0
 }
 
 // The header: clock (8), zeros (54), the IP version (1), zero (1)
@@ -111,158 +39,65 @@ const CLOCK: usize = 0;
 
 const ZEROS: usize = 8;
 
-const LAST_WORD: usize = 60;
-
-// The header clock.
-#[tactic(auto, using(choice::proofs::Choice::when_cond), unfolding(crate::specs::Table::header_clock))]
-pub fn clock(table: &[u8]) -> u64
-    requires { header_size ≤ length table.now }
-    ensures { result ≡ header_clock table.now }
-{
-    read64(table, CLOCK)
-}
+const LAST: usize = 56;
 
 pub fn set_clock(table: &mut [u8], clock: u64)
     requires { header_size ≤ length table.old }
     ensures { table.new ≡ overwrite table.old clock_at (octets_of 8 clock) }
 {
-    write64(table, CLOCK, clock);
+    clock.write_be(table, CLOCK);
 }
 
-// The search
+// The search. Side and flow are asked for apart, as the definitions have them: two rules of document 01 turn one or both.
 
-// The side that the opener is not on.
+// The opener's way round, by the entry at a place.
+#[tactic(auto, using(crate::proofs::Match::opener_by_key))]
+fn from_opener_at(place: &Place, side: u8, flow: Flow) -> bool
+    ensures { result ≡ from_opener connections (viewed (entry_at place.now.version place.now.table.now place.now.at)) side flow }
+{
+    place.key_is(flow) && side == place.side()
+}
+
+// The side that the opener is not on. A test, as 1u8.saturating_sub(side) takes a register that the search's loop needs.
 fn other_side(side: u8) -> u8
     ensures { result ≡ 1 - side }
 {
-    if side == 0 {
-        return 1;
-    }
-    0
+    if side == 0 { 1 } else { 0 }
 }
 
-// The entry at an offset has these addresses and ports, the opener's first.
-#[tactic(auto, using(choice::proofs::Choice::when_cond), unfolding(address::specs::Flows::same_flow, entry::specs::Layout::entry_at))]
-fn key_is(version: Version, table: &[u8], at: usize, flow: Flow) -> bool
-    requires { at + entry_size version ≤ length table.now }
-    ensures { result ≡ same_flow flow (entry_at version table.now at).key }
+// The answerer's way round: a rule of its own, with its own definition.
+#[tactic(auto, using(crate::proofs::Match::answerer_by_key))]
+fn from_answerer_at(place: &Place, side: u8, flow: Flow) -> bool
+    ensures { result ≡ from_answerer connections (viewed (entry_at place.now.version place.now.table.now place.now.at)) side flow }
 {
-    flow_is(
-        version,
-        table,
-        addresses_at(at),
-        ports_at(version, at),
-        flow,
-    )
-}
-
-// The opener's way round, by the entry at an offset.
-fn from_opener_at(version: Version, table: &[u8], at: usize, side: u8, flow: Flow) -> bool
-    requires { at + entry_size version ≤ length table.now }
-    ensures { result ≡ from_opener connections (viewed (entry_at version table.now at)) side flow }
-{
-    if !key_is(version, table, at, flow) {
-        return false;
-    }
-    side == table[at + SIDE]
-}
-
-// The answerer's way round.
-fn from_answerer_at(version: Version, table: &[u8], at: usize, side: u8, flow: Flow) -> bool
-    requires { at + entry_size version ≤ length table.now }
-    ensures { result ≡ from_answerer connections (viewed (entry_at version table.now at)) side flow }
-{
-    let back = reversed(flow);
-    if !key_is(version, table, at, back) {
-        return false;
-    }
-    side == other_side(table[at + SIDE])
+    place.key_is(flow.reversed()) && side == other_side(place.side())
 }
 
 // Free or expired: a free entry's deadline is 0.
-fn vacant_at(version: Version, table: &[u8], at: usize, clock: u64) -> bool
-    requires { at + entry_size version ≤ length table.now }
-    ensures { result ≡ vacant connections clock (viewed (entry_at version table.now at)) }
+#[tactic(auto, unfolding(rows::specs::Rows::vacant, entry::specs::Layout::entry_at, entry::specs::Layout::connection_at))]
+fn vacant_at(place: &Place, clock: u64) -> bool
+    ensures { result ≡ vacant connections clock (viewed (entry_at place.now.version place.now.table.now place.now.at)) }
 {
-    read64(table, numbers_at(version, at)) <= clock
+    clock >= place.deadline()
 }
 
 // Live and a match; the deadline is read first.
-fn live_match_at(
-    version: Version,
-    table: &[u8],
-    at: usize,
-    clock: u64,
-    side: u8,
-    flow: Flow,
-) -> bool
-    requires { at + entry_size version ≤ length table.now }
-    ensures { result ≡ live_match connections clock side flow (viewed (entry_at version table.now at)) }
+#[tactic(auto, using(crate::proofs::Match::live_if_not_vacant))]
+fn live_match_at(place: &Place, clock: u64, side: u8, flow: Flow) -> bool
+    ensures { result ≡ live_match connections clock side flow (viewed (entry_at place.now.version place.now.table.now place.now.at)) }
 {
-    if vacant_at(version, table, at, clock) {
-        return false;
-    }
-    if from_opener_at(version, table, at, side, flow) {
-        return true;
-    }
-    from_answerer_at(version, table, at, side, flow)
-}
-
-// The search takes the first live match from place 0 up.
-pub fn find(
-    version: Version,
-    table: &[u8],
-    places: usize,
-    clock: u64,
-    side: u8,
-    flow: Flow,
-) -> Found
-    requires { place_at version places ≤ length table.now }
-    ensures { result ≡ search connections (view_of version table.now places) clock side flow }
-{
-    let size = entry_size(version);
-    let mut at = place_at(version, 0);
-    let mut place = 0;
-    let found = loop {
-        if places <= place {
-            break Found::Nothing;
-        }
-        if live_match_at(version, table, at, clock, side, flow) {
-            break Found::At(place);
-        }
-        at += size;
-        place += 1;
-    };
-    found
-}
-
-// An opening takes the first place that is free or expired.
-pub fn vacant(version: Version, table: &[u8], places: usize, clock: u64) -> Found
-    requires { place_at version places ≤ length table.now }
-    ensures { result ≡ lowest_vacant connections (view_of version table.now places) clock }
-{
-    let size = entry_size(version);
-    let mut at = place_at(version, 0);
-    let mut next = 0;
-    let found = loop {
-        if places <= next {
-            break Found::Nothing;
-        }
-        if vacant_at(version, table, at, clock) {
-            break Found::At(next);
-        }
-        at += size;
-        next += 1;
-    };
-    found
+    !vacant_at(place, clock)
+        && (from_opener_at(place, side, flow) || from_answerer_at(place, side, flow))
 }
 
 // Soundness
 
 // An entry's first four octets as one word: stage + 256·side + 65,536·FIN bits, the zero byte above them. `k` leaves out the side's
-// one bit, so that both sides are asked at once. Sound are 1 to 3 (stages 1 to 3 without FIN bits), 65,540 and 131,076 (stage 4 with
-// FIN bits 1 or 2), 196,613 (stage 5 with FIN bits 3), and 6, 65,542, 131,078 and 196,614 (stage 6 with FIN bits 0 to 3). 1 to 3 are
-// the usual ones, so they come first, in a `match` of their own: the compiler tests a `match`'s single numbers before its ranges.
+// one bit, so that both sides are asked at once: a test of each octet would take more branches, and this scan is most of a call. Sound
+// are 1 to 3 (stages 1 to 3 without FIN bits), 65,540 and 131,076 (stage 4 with FIN bits 1 or 2), 196,613 (stage 5 with FIN bits 3), and
+// 6, 65,542, 131,078 and 196,614 (stage 6 with FIN bits 0 to 3). 1 to 3 are the usual ones, so they come first, in a `match` of their
+// own: the compiler tests a `match`'s single numbers before its ranges. Each number has an arm, as the list above names them one by one:
+// `|` was tried, and is no plainer.
 fn sound_word(w: u32) -> bool
     ensures { result ≡ sound_word w }
 {
@@ -287,34 +122,7 @@ fn sound_word(w: u32) -> bool
 fn sound_end(end: End) -> bool
     ensures { result ≡ sound_end end }
 {
-    if !end.win.one_to(OctetCount(65_535)) {
-        return false;
-    }
-    end.edge.minus(end.end).at_most(OctetCount(65_535))
-}
-
-// Deadline, both records and the zeros that end the entry at an offset.
-fn sound_numbers(
-    version: Version,
-    table: &[u8],
-    clock: u64,
-    at: usize,
-    opener: End,
-    answerer: End,
-) -> bool
-    requires { (at + entry_size version ≤ length table.now) × (clock < 2 ^ 48) }
-    ensures { result ≡ sound_numbers version table.now clock at opener answerer }
-{
-    if clock + 432_000_000 < read64(table, numbers_at(version, at)) {
-        return false;
-    }
-    if !sound_end(opener) {
-        return false;
-    }
-    if !sound_end(answerer) {
-        return false;
-    }
-    any_rest(version, table, rest_at(version, at)) == 0
+    end.win.one_to(OctetCount(65_535)) && end.edge - end.end <= OctetCount(65_535)
 }
 
 // In stage 1 the opener's edge equals its end and the answerer has 0, 0, 1.
@@ -322,84 +130,138 @@ fn sound_numbers(
 fn sound_unanswered(opener: End, answerer: End) -> bool
     ensures { result ≡ sound_unanswered 1 opener answerer }
 {
-    if !opener.edge.is(opener.end) {
-        return false;
-    }
-    if !answerer.end.is(SeqNum(0)) {
-        return false;
-    }
-    if !answerer.edge.is(SeqNum(0)) {
-        return false;
-    }
-    answerer.win.is(OctetCount(1))
+    opener.edge == opener.end
+        && answerer.end == SeqNum(0)
+        && answerer.edge == SeqNum(0)
+        && answerer.win == OctetCount(1)
 }
 
-// The entry at an offset, by the header clock: free, or sound and in use.
-fn sound_entry(version: Version, table: &[u8], clock: u64, at: usize) -> bool
-    requires { (at + entry_size version ≤ length table.now) × (clock < 2 ^ 48) }
-    ensures { result ≡ sound_entry version table.now clock at }
+// An entry in use by its numbers and the zeros that end it.
+#[tactic(auto, using(crate::proofs::Zeros::zeros_of_part, crate::proofs::Words::unanswered_in_1), unfolding(crate::specs::Words::sound_numbers))]
+fn sound_numbers(place: &Place, clock: Clock, stage: u8) -> bool
+    ensures { result ≡ sound_numbers place.now.version place.now.table.now clock.ms place.now.at stage }
 {
-    let word = little32(table, at);
+    let opener = place.opener();
+    let answerer = place.answerer();
+    place.deadline() <= clock.ms + 432_000_000
+        && sound_end(opener)
+        && sound_end(answerer)
+        && all_zero(place.rest())
+        && (stage != 1 || sound_unanswered(opener, answerer))
+}
+
+// The entry at a place, by the header clock: free, or sound and in use.
+fn sound_entry(place: &Place, clock: Clock) -> bool
+    ensures { result ≡ sound_entry place.now.version place.now.table.now clock.ms place.now.at }
+{
+    let word = little32(place.table, place.at);
     if word == 0 {
-        return any_entry(version, table, at) == 0;
-    }
-    if !sound_word(word) {
-        return false;
-    }
-    let numbers = numbers_at(version, at);
-    let opener = load_end(table, numbers + OPENER);
-    let answerer = load_end(table, numbers + ANSWERER);
-    if !sound_numbers(version, table, clock, at, opener, answerer) {
-        return false;
-    }
-    match word % 256 {
-        1 => sound_unanswered(opener, answerer),
-        _ => true,
+        all_zero(place.octets())
+    } else {
+        sound_word(word) && sound_numbers(place, clock, (word % 256) as u8)
     }
 }
 
-// The header's last four octets as one word, lowest first: two of its zeros, the IP version's byte, a zero.
-fn last_word(version: Version) -> u32
-    ensures { result ≡ version_byte version * 65536 }
+// The header's last eight octets as one number: six of its zeros, the IP version's byte, a zero.
+fn last_word(version: Version) -> u64
+    ensures { result ≡ version_byte version * 256 }
 {
     match version {
         Version::V4 => 0,
-        Version::V6 => 65_536,
+        Version::V6 => 256,
     }
 }
 
 // Header clock under 2^48, the IP version's byte, and the header's rest zero. That byte and the octets beside it are one load and one test.
-fn sound_header(version: Version, table: &[u8]) -> bool
-    requires { header_size ≤ length table.now }
-    ensures { result ≡ sound_header version table.now }
+#[tactic(auto, unfolding(crate::specs::Table::header_clock))]
+fn sound_header(version: Version, bytes: &[u8]) -> bool
+    requires { header_size ≤ length bytes.now }
+    ensures { result ≡ sound_header version bytes.now }
 {
-    if 281_474_976_710_656 <= clock(table) {
-        return false;
-    }
-    if little32(table, LAST_WORD) != last_word(version) {
-        return false;
-    }
-    any52(table, ZEROS) == 0
+    u64::read_be(bytes, CLOCK) < 1 << 48
+        && u64::read_be(bytes, LAST) == last_word(version)
+        && all_zero(&bytes[ZEROS..LAST])
 }
 
-// Whether the table is sound: its header, and every place.
-pub fn sound(version: Version, table: &[u8], places: usize) -> bool
-    requires { place_at version places ≤ length table.now }
-    ensures { result ≡ sound_table version table.now places }
-{
-    if !sound_header(version, table) {
-        return false;
+// A table of so many places in lent bytes: read only, as a pass is stored through its own borrow, by set_clock and entry::store.
+#[derive(Clone, Copy)]
+pub struct Table<'a> {
+    pub version: Version,
+    pub bytes: &'a [u8],
+    pub places: usize,
+    pub ghost inside: { place_at version places ≤ length bytes.now },
+}
+
+impl<'a> Table<'a> {
+    // The header clock.
+    #[tactic(auto, using(choice::proofs::Choice::when_cond), unfolding(crate::specs::Table::header_clock))]
+    pub fn clock(&self) -> u64
+        ensures { result ≡ header_clock self.now.bytes.now }
+    {
+        u64::read_be(self.bytes, CLOCK)
     }
-    let header = clock(table);
-    let size = entry_size(version);
-    let mut at = place_at(version, 0);
-    let mut checked = 0;
-    while checked < places {
-        if !sound_entry(version, table, header, at) {
+
+    // The place of this number.
+    fn place(&self, place: usize) -> Place<'a>
+        requires { place < self.now.places }
+        ensures version { result.version ≡ self.now.version }
+        ensures table { result.table.now ≡ self.now.bytes.now }
+        ensures at { result.at ≡ place_at self.now.version place }
+    {
+        Place::of(self.version, self.bytes, place)
+    }
+
+    // The entry at a place.
+    pub fn load(&self, place: usize) -> Entry
+        requires { place < self.now.places }
+        ensures { result ≡ entry_at self.now.version self.now.bytes.now (place_at self.now.version place) }
+    {
+        self.place(place).entry()
+    }
+
+    // The first place that passes a test: a loop over places that yields it by break, as document 01 asks for the search.
+    fn first_place<F: Fn(usize) -> bool>(&self, test: F) -> Option<usize>
+        requires { (place : ℕ) → place < self.now.places → F.pre test place }
+        ensures { IsFirstPlace (F.post test) self.now.places result }
+    {
+        'found: {
+            for place in 0..self.places {
+                if test(place) {
+                    break 'found Some(place);
+                }
+            }
+            None
+        }
+    }
+
+    // The search takes the first live match from place 0 up.
+    pub fn find(&self, clock: u64, side: u8, flow: Flow) -> Option<usize>
+        ensures { result ≡ search connections (view_of self.now.version self.now.bytes.now self.now.places) clock side flow }
+    {
+        self.first_place(|place| live_match_at(&self.place(place), clock, side, flow))
+    }
+
+    // An opening takes the first place that is free or expired.
+    pub fn vacant(&self, clock: u64) -> Option<usize>
+        ensures { result ≡ lowest_vacant connections (view_of self.now.version self.now.bytes.now self.now.places) clock }
+    {
+        self.first_place(|place| vacant_at(&self.place(place), clock))
+    }
+
+    // Whether the table is sound: its header, and every place.
+    pub fn is_sound(&self) -> bool
+        ensures { result ≡ sound_table self.now.version self.now.bytes.now self.now.places }
+    {
+        if !sound_header(self.version, self.bytes) {
             return false;
         }
-        at += size;
-        checked += 1;
+        let clock = Clock { ms: self.clock() };
+        // Not by `all` on the range, which was tried: of its answer a proof would need each of the range's items.
+        for number in 0..self.places {
+            if !sound_entry(&self.place(number), clock) {
+                return false;
+            }
+        }
+        true
     }
-    true
 }

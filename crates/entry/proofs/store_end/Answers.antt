@@ -11,5 +11,5 @@ returns c =
     let third = c in
     let second = third in
     let first = second in
-    let tail = overwrite-both _ _ _ _ second.write32-2.ensures third.write32-3.ensures (length-octets_of 4 _) (omega arith) (omega arith) in
-    overwrite-both _ _ _ _ first.write32.ensures tail (length-octets_of 4 _) refl (omega arith)
+    let tail = overwrite-both _ _ _ _ second.write_be-2.ensures third.write_be-3.ensures (length-octets_of 4 _) (omega arith) (omega arith) in
+    overwrite-both _ _ _ _ first.write_be.ensures tail (length-octets_of 4 _) refl (omega arith)

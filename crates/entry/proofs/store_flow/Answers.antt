@@ -15,8 +15,8 @@ returns c =
     ) in
     let first = (let k = c in k.write_address.ensures) in
     let second = c.write_address-2.ensures in
-    let third = c.write16.ensures in
-    let fourth = c.write16-2.ensures in
+    let third = c.write_be.ensures in
+    let fourth = c.write_be-2.ensures in
     let ports = overwrite-both _ _ _ _ third fourth (length-octets_of 2 _) (omega arith) (omega arith) in
     let tail = overwrite-both _ _ _ _ second ports (length-address_octets v _) (omega arith) (omega arith) in
     overwrite-both _ _ _ _ first tail (length-address_octets v _) (omega arith) (omega arith)

@@ -13,4 +13,4 @@ returns c =
     let second = third in
     let first = second in
     let ends = overwrite-both _ _ _ _ second.store_end.ensures third.store_end-2.ensures (length-end_bytes _) (omega arith) (omega arith) in
-    overwrite-both _ _ _ _ first.write64.ensures ends (length-octets_of 8 _) refl (omega arith)
+    overwrite-both _ _ _ _ first.write_be.ensures ends (length-octets_of 8 _) refl (omega arith)

@@ -1,22 +1,20 @@
-use mathlib.Core.Path.{sym, ◌∙◌}
 use native.Mathlib.Omega.{arith}
-use Rattle.choice.proofs.Tests.{eqb-0≡test}
-use Rattle.table.proofs.Words.{header-not-by-clock, header-not-by-version, header-by-rest}
+use Rattle.std.proofs.lemmas.Grind.{common_steps}
+use Rattle.table.specs.Table.{header_clock}
+use Rattle.table.proofs.Words.{header_by_words}
+use Rattle.table.proofs.Zeros.{zeros_of_part}
 use Rattle.table.proofs.sound_header.Goals as goal
 
-pub returns-then-clock-ge281474976710656 : goal.returns-then-clock-ge281474976710656
-returns-then-clock-ge281474976710656 c = let a = c.args in sym (header-not-by-clock a.version a.table.now (omega arith))
+pub returns-then-read_be-last_word : goal.returns-then-read_be-last_word
+unfolding header_clock
+returns-then-read_be-last_word c =
+    let t = c.args.bytes.now in
+    let told = header_by_words c.args.version t (λ i. (c.type_inv.bytes i).fits) in
+    let zeros = zeros_of_part t 8 48 (omega arith) in
+    grind (arith, common_steps, zeros, told)
 
-pub returns-then-little32-last_word : goal.returns-then-little32-last_word
-returns-then-little32-last_word c =
-    let w = c in
-    let a = w.args in
-    sym (header-not-by-version a.version a.table.now (λ e. c.if-little32-last_word.true (w.little32.ensures.value ∙ e ∙ sym c.last_word.ensures)))
-
-pub returns : goal.returns
-returns c =
-    let k = c in
-    let w = k in
-    let a = w.args in
-    let version = sym w.little32.ensures.value ∙ k.if-little32-last_word.false ∙ k.last_word.ensures in
-    eqb-0≡test _ _ c.any52.ensures ∙ sym (header-by-rest a.version a.table.now (omega arith) w.little32.ensures.octets version)
+pub returns-else-read_be-last_word : goal.returns-else-read_be-last_word
+unfolding header_clock
+returns-else-read_be-last_word c =
+    let told = header_by_words c.args.version c.args.bytes.now (λ i. (c.type_inv.bytes i).fits) in
+    grind (arith, common_steps, told)
