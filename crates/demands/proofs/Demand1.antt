@@ -6,7 +6,7 @@ use native.Mathlib.Omega.{arith}
 use lib.ListN.{length}
 use Rattle.address.specs.declared.Version.{Version}
 use Rattle.packet.specs.Reader.{ReaderOf}
-use Rattle.packet.specs.declared.PacketRead.{PacketRead}
+use Rattle.packet.specs.Read.{PacketRead}
 use Rattle.rows.specs.Rows.{Blocked, Passed}
 use Rattle.entry.specs.Viewed.{stored}
 use Rattle.packet.proofs.Causes.{packet-answer-bounds}

@@ -4,9 +4,8 @@ use mathlib.Core.Path.{ap, ◌∙◌}
 use mathlib.Core.List.{List}
 use Rattle.address.specs.declared.Version.{Version}
 use Rattle.address.specs.declared.Version.TheVariants.{V4}
-use Rattle.packet.specs.Read.{read_ipv4}
+use Rattle.packet.specs.Read.{PacketRead, read_ipv4}
 use Rattle.packet.specs.Reader.{ReaderOf}
-use Rattle.packet.specs.declared.PacketRead.{PacketRead}
 use Rattle.packet.proofs.Readable.{ipv4-reader}
 use Rattle.honest.proofs.Demand3.{demand3}
 use Rattle.honest.proofs.AsWritten.{demand3_as_written}

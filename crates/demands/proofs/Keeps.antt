@@ -8,9 +8,8 @@ use native.Mathlib.Omega.{arith}
 use Rattle.address.specs.Address.{IsFlow}
 use Rattle.address.specs.declared.Version.{Version}
 use Rattle.address.specs.declared.Version.TheVariants.{V4}
-use Rattle.packet.specs.Read.{read_ipv4}
+use Rattle.packet.specs.Read.{PacketRead, read_ipv4}
 use Rattle.packet.specs.Reader.{ReaderOf}
-use Rattle.packet.specs.declared.PacketRead.{PacketRead}
 use Rattle.packet.proofs.Readable.{ipv4-reader}
 use Rattle.connection.specs.Sound.{sound_connection}
 use Rattle.rows.specs.Rows.{Ask, Entry, Outcome, Blocked, Passed, clock_used, filter, after}

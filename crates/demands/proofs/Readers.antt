@@ -16,7 +16,7 @@ use Rattle.address.specs.Flows.{same_flow}
 use Rattle.address.specs.declared.Version.TheVariants.{V4}
 use Rattle.packet.specs.Reader.{PointsInto}
 use Rattle.packet.specs.declared.Cause.{Cause}
-use Rattle.packet.specs.declared.PacketRead.{PacketRead}
+use Rattle.packet.specs.Read.{PacketRead}
 use Rattle.connection.specs.Decision.{opened}
 use Rattle.connection.specs.Sound.{sound_fins, sound_end, sound_unanswered, sound_connection}
 use Rattle.connection.specs.Stages.{life_of}

@@ -5,14 +5,14 @@ use mathlib.Core.Bool.{not}
 use mathlib.Core.List.{List}
 use native.Mathlib.Omega.{arith}
 use borrow.Author.Tests.{leb-true, leb-false, not-false}
+use Rattle.std.specs.Prelude.{Ok, Err}
 use Rattle.choice.specs.Choice.{when◌then◌else◌, ◌≤ᵇ◌}
 use Rattle.choice.proofs.Choice.{when-false, when-ap, when-else, when-cases}
 use Rattle.address.specs.Address.{IsFlow}
 use Rattle.address.specs.declared.Version.{Version}
 use Rattle.segment.specs.Readable.{Readable}
 use Rattle.packet.specs.Reader.{ReaderOf}
-use Rattle.packet.specs.declared.PacketRead.{PacketRead}
-use Rattle.packet.specs.declared.PacketRead.TheVariants.{Refused, Tcp}
+use Rattle.packet.specs.Read.{PacketRead}
 use Rattle.packet.proofs.Causes.{packet-answer-bounds, cause-answer}
 use Rattle.rows.specs.Rows.{Ask, View, Blocked, nowhere, filter}
 use Rattle.rows.specs.Connections.{connections}
@@ -44,8 +44,8 @@ module _ (v : Version) (read : List ℕ → PacketRead) (q : BytesCall) (t : Lis
       (r : PacketRead) →
       packet_rows Blocked r (λ k g. filter connections (table_of v t) (ask_of q.side q.clock k g))
       ≡ on_reading (table_of v t) (asked q r)
-  by-packet (Refused cause offset) = refl
-  by-packet (Tcp k g) = refl
+  by-packet (Err e) = refl
+  by-packet (Ok (k, g)) = refl
 
   outcome-read : called v read t q ≡ on_reading (table_of v t) (reading_of read q)
   unfolding outcome_of
@@ -77,8 +77,8 @@ Holds v apart = ⊥
 
 module _ (v : Version) (read : List ℕ → PacketRead) (reader : ReaderOf v read) (q : BytesCall) where
   packet-holds : q.side ≤ 1 → q.clock < 2 ^ 48 → (r : PacketRead) → read q.packet ≡ r → Holds v (asked q r)
-  packet-holds side clock (Refused cause offset) is = omega (arith, (packet-answer-bounds (cause-answer cause)).0)
-  packet-holds side clock (Tcp k g) is = record {
+  packet-holds side clock (Err e) is = omega (arith, (packet-answer-bounds (cause-answer e.cause)).0)
+  packet-holds side clock (Ok (k, g)) is = record {
     side = side;
     clock = clock;
     key = reader.flow q.packet k g q.octets is;

@@ -3,8 +3,7 @@ use Rattle.std.specs.Prelude.{ℕ, ◌≡◌, true, List, length}
 use Rattle.octets.specs.Octets.{Octets}
 use Rattle.address.specs.declared.Version.{Version}
 use Rattle.address.specs.declared.Version.TheVariants.{V4}
-use Rattle.packet.specs.Read.{read_ipv4}
-use Rattle.packet.specs.declared.PacketRead.{PacketRead}
+use Rattle.packet.specs.Read.{PacketRead, read_ipv4}
 use Rattle.rows.specs.Rows.{Ask}
 use Rattle.table.specs.Table.{sound_table}
 use Rattle.filter.specs.Length.{legal_length}

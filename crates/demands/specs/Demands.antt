@@ -3,9 +3,8 @@ use Rattle.std.specs.Prelude.{ℕ, ◌+◌, ◌≤◌, ◌<◌, ◌≡◌, ◌�
 use Rattle.octets.specs.Overwrite.{overwrite}
 use Rattle.address.specs.declared.Version.{Version}
 use Rattle.address.specs.declared.Version.TheVariants.{V4}
-use Rattle.packet.specs.Read.{read_ipv4}
+use Rattle.packet.specs.Read.{PacketRead, read_ipv4}
 use Rattle.packet.specs.Reader.{PacketAnswer, BrokenAt, ReaderOf}
-use Rattle.packet.specs.declared.PacketRead.{PacketRead}
 use Rattle.rows.specs.Rows.{nowhere}
 use Rattle.entry.specs.Layout.{entry_size, place_at}
 use Rattle.table.specs.Table.{header_zeros_at, version_byte_at, version_byte}

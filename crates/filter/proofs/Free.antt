@@ -14,13 +14,30 @@ use Rattle.rows.specs.Connections.{connections}
 use Rattle.entry.specs.Layout.{entry_size, connection_at, entry_at, end_bytes, marks_bytes, flow_bytes, numbers_bytes, entry_bytes}
 use Rattle.entry.specs.Storable.{Storable}
 use Rattle.entry.specs.Viewed.{stored}
+use Rattle.address.specs.contracts.EndpointDefault.TheImpl as the_endpoint
+use Rattle.address.specs.contracts.FlowDefault.TheImpl as the_flow
+use Rattle.address.specs.declared.Endpoint.{Endpoint}
+use Rattle.address.specs.declared.Flow.{Flow}
+use Rattle.entry.specs.contracts.EntryDefault.TheImpl as the_entry
 use Rattle.entry.specs.declared.Entry.{Entry}
+use Rattle.connection.proofs.Default.{free_by_default}
 use Rattle.entry.proofs.Agree.{entry_at-agree}
 use Rattle.table.specs.Table.{all_from, zeros_at}
 use Rattle.table.proofs.Zeros.{Zeros, zeros_at-true}
 
 abbrev pub free_entry : Entry
 free_entry = stored (rows.free_entry connections)
+
+-- an entry by default is free
+endpoint_by_default : (e : Endpoint) → the_endpoint.is_default-value.it e → e ≡ nobody
+endpoint_by_default e ((low, high), port) = λ i. record { address = record { low = low i; high = high i }; port = port i }
+
+flow_by_default : (k : Flow) → the_flow.is_default-value.it k → k ≡ no_flow
+flow_by_default k (from, to) = λ i. record { from = endpoint_by_default k.from from i; to = endpoint_by_default k.to to i }
+
+pub entry_by_default : (e : Entry) → the_entry.is_default-value.it e → e ≡ free_entry
+entry_by_default e (key, connection) =
+    λ i. record { key = flow_by_default e.key key i; connection = free_by_default e.connection connection i }
 
 -- an entry of zeros is free
 pub zeros-free : (v : Version) (t : List ℕ) (at : ℕ) → Zeros t at (entry_size v) → entry_at v t at ≡ free_entry

@@ -6,30 +6,26 @@ use mathlib.Core.List.{List}
 use native.Mathlib.Omega.{arith}
 use lib.ListN.{length}
 use borrow.Author.Tests.{not-false}
-use Rattle.choice.proofs.Choice.{when-either, when-cases, when-=, when-=-not}
+use Rattle.choice.proofs.Choice.{when-either, when-cases}
 use Rattle.address.specs.declared.Flow.{Flow}
 use Rattle.address.specs.declared.Version.{Version}
 use Rattle.segment.specs.declared.Segment.{Segment}
-use Rattle.packet.specs.Read.{cause_number}
+use Rattle.std.specs.Prelude.{Ok, Err}
+use Rattle.packet.specs.Read.{PacketRead, cause_number, refused_at}
 use Rattle.packet.specs.Reader.{PacketAnswer, BrokenAt, ReaderOf}
 use Rattle.packet.specs.declared.Cause.{Cause}
-use Rattle.packet.specs.declared.PacketRead.{PacketRead}
-use Rattle.packet.specs.declared.PacketRead.TheVariants.{Refused, Tcp}
 use Rattle.packet.proofs.Causes.{packet-answer-bounds, cause-answer}
 use Rattle.rows.specs.Rows.{Blocked, Passed, nowhere, filter, clock_used}
 use Rattle.rows.specs.Connections.{connections}
 use Rattle.rows.proofs.Rows.{Comes, blocks, passes, makes, comes}
 use Rattle.entry.specs.Layout.{entry_size, place_at}
 use Rattle.entry.proofs.Places.{place_inside}
-use Rattle.filter.specs.Call.{Outcome, places_in, table_of, ask_of, packet_rows, outcome_of, reply_of, table_after}
-use Rattle.filter.specs.Decision.{decision_of, table_left_by, PassInside}
-use Rattle.filter.specs.declared.Decision.{Decision}
-use Rattle.filter.specs.declared.Reply.{Reply}
+use Rattle.filter.specs.Call.{Outcome, places_in, table_of, ask_of, packet_rows, outcome_of, reply_of}
 use Rattle.filter.proofs.Rows.{legal-length-bounds, places-inside, places-most}
 
 -- the reader's cause and offset, or another row's number and no place
 pub data Placed (read : PacketRead) (n place : ℕ) : Type 0 where
-  by-reader : (cause : Cause) → read ≡ Refused cause place → n ≡ cause_number cause → Placed read n place
+  by-reader : (cause : Cause) → read ≡ refused_at cause place → n ≡ cause_number cause → Placed read n place
   by-other-row : (PacketAnswer n → ⊥) → place ≡ nowhere → Placed read n place
 
 -- 5 to 10 and 16 are the reader's
@@ -57,20 +53,6 @@ abbrev pub Within : Version → List ℕ → PacketRead → Outcome → Type 0
 Within v t read (Blocked n place) = (1 ≤ n) × (n ≤ 16) × Placed read n place
 Within v t read (Passed p now e) = (p < 512) × (place_at v p + entry_size v ≤ length t)
 
-module _ (v : Version) (t : List ℕ) (read : PacketRead) where
-  within-fits : (o : Outcome) → Within v t read o → PassInside v t (decision_of o)
-  within-fits (Blocked n place) h = λ e. absurd (omega (arith, h.0))
-  within-fits (Passed p now e) h = λ _. h.1
-
-  pub table_left_by≡table_after : (o : Outcome) → Within v t read o → table_left_by v t (decision_of o) ≡ table_after v t o
-  unfolding table_left_by
-  table_left_by≡table_after (Blocked n place) h = when-=-not _ _ (λ (e : n ≡ 0). absurd (omega (arith, h.0)))
-  table_left_by≡table_after (Passed p now e) h = when-= {a = 0} {b = 0} _ t refl
-
-pub reply≡reply_of : (o : Outcome) → ◌≡◌ {A = Reply} (record { answer = (decision_of o).answer; place = (decision_of o).place }) (reply_of o)
-reply≡reply_of (Blocked n place) = refl
-reply≡reply_of (Passed p now e) = refl
-
 -- The outcome of a call
 
 module _ (v : Version) (t : List ℕ) (long : place_at v 1 ≤ length t) (short : length t ≤ place_at v 512) where
@@ -90,10 +72,10 @@ module _ (v : Version) (t : List ℕ) (long : place_at v 1 ≤ length t) (short 
   read-within :
       (side clock : ℕ) (read : PacketRead) →
       Within v t read (packet_rows Blocked read (λ k g. filter connections (table_of v t) (ask_of side clock k g)))
-  read-within side clock (Refused cause offset) = let h = packet-answer-bounds (cause-answer cause) in (omega (arith, h.0), h.1, by-reader cause refl refl)
-  read-within side clock (Tcp k g) =
+  read-within side clock (Err e) = let h = packet-answer-bounds (cause-answer e.cause) in (omega (arith, h.0), h.1, by-reader e.cause refl refl)
+  read-within side clock (Ok (k, g)) =
       let now = clock_used connections (table_of v t) (ask_of side clock k g) in
-      comes-within now side k g (Tcp k g) _ (comes connections (table_of v t) now side k g)
+      comes-within now side k g (Ok (k, g)) _ (comes connections (table_of v t) now side k g)
 
 module _ (v : Version) (side clock : ℕ) (t : List ℕ) (read : PacketRead) where
   row_within : (n : ℕ) → 1 ≤ n → n ≤ 4 → Within v t read (Blocked n nowhere)
@@ -107,9 +89,6 @@ module _ (v : Version) (side clock : ℕ) (t : List ℕ) (read : PacketRead) whe
       (when-cases (Within v t read) _ _ _ (λ _. row_within 3 (omega arith) (omega arith))
       (λ legal. when-either (Within v t read) _ _ _ (row_within 4 (omega arith) (omega arith))
       (let h = legal-length-bounds v _ (not-false _ legal) in read-within v t h.0 h.1 side clock read))))
-
-  pub decision-fits : (d : Decision) → d ≡ decision_of (outcome_of v side clock t read) → PassInside v t d
-  decision-fits d e = rw e (within-fits v t read (outcome_of v side clock t read) outcome-within)
 
 -- an answer is at most 16, and a place at most 65,535
 pub reply-small :

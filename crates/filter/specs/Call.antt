@@ -1,5 +1,5 @@
 -- One call of the filter (document 01, "What the gate says"), over what a reader gives of the packet; `outcome_of` is the whole list.
-use Rattle.std.specs.Prelude.{ℕ, ◌^◌, Bool, not, List, length}
+use Rattle.std.specs.Prelude.{ℕ, ◌^◌, Bool, not, List, length, Ok, Err}
 use Rattle.choice.specs.Choice.{when◌then◌else◌, ◌≤ᵇ◌}
 use Rattle.octets.specs.BigEndian.{octets_of}
 use Rattle.octets.specs.Overwrite.{overwrite}
@@ -7,9 +7,7 @@ use Rattle.address.specs.declared.Flow.{Flow}
 use Rattle.address.specs.declared.Version.{Version}
 use Rattle.address.specs.declared.Version.TheVariants.{V4}
 use Rattle.segment.specs.declared.Segment.{Segment}
-use Rattle.packet.specs.Read.{read_ipv4, cause_number}
-use Rattle.packet.specs.declared.PacketRead.{PacketRead}
-use Rattle.packet.specs.declared.PacketRead.TheVariants.{Refused, Tcp}
+use Rattle.packet.specs.Read.{PacketRead, read_ipv4, cause_number}
 use Rattle.rows.specs.Rows as rows
 use Rattle.rows.specs.Rows.{Ask, View, Blocked, Passed, nowhere, answer_of, place_by}
 use Rattle.rows.specs.Connections.{connections}
@@ -51,8 +49,8 @@ module _ {A : Type 0} (refuse : (answer place : ℕ) → A) where
 
   -- 5 to 10, with 16 after 9, as the version's reader has them; the place is the offset of the cause (document 02, items 2 and 5)
   abbrev pub packet_rows : PacketRead → (Flow → Segment → A) → A
-  packet_rows (Refused cause offset) next = refuse (cause_number cause) offset
-  packet_rows (Tcp k g) next = next k g
+  packet_rows (Err e) next = refuse (cause_number e.cause) e.offset
+  packet_rows (Ok (k, g)) next = next k g
 
 -- a packet's flow and segment, with its side and clock, as rows 11 to 15 and 0 are asked
 abbrev pub ask_of : ℕ → ℕ → Flow → Segment → Ask

@@ -1,236 +1,238 @@
 // One call of the filter: the rows of document 01, with 16 of document 02, item 5, on a table of either IP version; and the filter of IPv4.
 #![tactic(auto)]
 
-ghost use Rattle.std.specs.Prelude.{◌≡◌, ◌^◌, ◌≤◌, ◌<◌, max, length};
-ghost use Rattle.entry.specs.Layout.{header_size, place_at};
+ghost use Rattle.std.specs.Prelude.{◌≡◌, ◌+◌, ◌≤◌, length};
+ghost use Rattle.address.specs.declared.Version.{Version};
+ghost use Rattle.entry.specs.Layout.{header_size, entry_size, place_at};
 ghost use Rattle.entry.specs.Viewed.{viewed, stored};
-ghost use Rattle.rows.specs.Rows.{Blocked, Passed, nowhere, free_entry, entry_with, sender_of, on_entry, opening_entry, unmatched, on_segment};
+ghost use Rattle.rows.specs.Rows.{entry_with, sender_of, on_entry, opening_entry, unmatched, on_segment};
 ghost use Rattle.rows.specs.Connections.{connections};
-ghost use Rattle.table.specs.Table.{header_clock, view_of};
+ghost use Rattle.connection.specs.Ends.{end_of};
+ghost use Rattle.packet.specs.Read.{PacketRead};
+ghost use Rattle.table.specs.Table.{view_of};
 ghost use Rattle.filter.specs.Length.{legal_length, places_for};
-ghost use Rattle.filter.specs.Call.{packet_rows, outcome_of, ipv4_outcome, reply_of, table_after};
-ghost use Rattle.filter.specs.Decision.{table_refusal, decision_of, table_left_by, PassInside};
+ghost use Rattle.filter.specs.Call.{outcome_of, ipv4_outcome, reply_of, with_entry, table_after};
+ghost use Rattle.filter.specs.Decision.{reason_number, reason_place, outcome_of_result, outcome_on};
+ghost use Rattle.filter.specs.declared.BlockReason.TheVariants.{Packet, Segment};
 
-use address::{Address, Endpoint, Flow, Version};
-use connection::{Connection, End, Verdict};
-use entry::{Entry, entry_size, load, place_at, store};
-use packet::{PacketRead, read_ipv4};
-use rows::Found;
-use segment::Segment;
-use serial::{OctetCount, SeqNum};
-use table::{find, set_clock, sound, vacant};
+use address::{Flow, Version};
+use connection::{Clock, Connection, SegmentError, Sender};
+use entry::{Entry, entry_size, place_at, store};
+use packet::{PacketError, PacketRead, read_ipv4};
+use segment::{Flag, Segment};
+use table::{Table, set_clock};
 
-// What a call comes to: the answer and the place, and for a pass the clock used and the entry that it leaves. One struct for
-// both cases, told apart by the answer, since an enum can't hold an entry's two records today.
-#[derive(Clone, Copy)]
-struct Decision {
-    answer: u32,
-    place: usize,
-    clock: u64,
-    entry: Entry,
-}
+// The first clock in ms that is too large.
+const CLOCK_LIMIT: u64 = 1 << 48;
 
-// Answer and place.
-#[derive(Clone, Copy)]
+// The place of every answer but the packet reader's and a pass.
+const NOWHERE: usize = 65_535;
+
+// SYN without ACK, which opens a connection; the packet reader has refused SYN with FIN or RST.
+const SYN: u8 = Flag::Syn as u8;
+
+// Answer and place as the documents number them: so they go to C and into what the trace program prints.
+#[derive(Clone, Copy, Debug, PartialEq, Eq)]
 pub struct Reply {
     pub answer: u32,
     pub place: usize,
 }
 
-// A free entry: all zeros.
-fn free_entry() -> Entry
-    ensures { result ≡ stored (free_entry connections) }
-{
-    let no_address = Address { high: 0, low: 0 };
-    let nobody = Endpoint {
-        address: no_address,
-        port: 0,
-    };
-    let zero = End {
-        end: SeqNum(0),
-        edge: SeqNum(0),
-        win: OctetCount(0),
-    };
-    Entry {
-        key: Flow {
-            from: nobody,
-            to: nobody,
-        },
-        connection: Connection {
-            stage: 0,
-            side: 0,
-            fins: 0,
-            deadline: 0,
-            ends: [zero, zero],
-        },
+// Why a call is blocked.
+#[derive(Clone, Copy, Debug, PartialEq, Eq)]
+enum BlockReason {
+    // 1: side is not 0 or 1.
+    UnknownSide,
+    // 2: clock is 2^48 ms or more.
+    ClockTooLarge,
+    // 3: table length is not that of a header and 1 to 512 entries.
+    TableLength,
+    // 4: table is unsound.
+    UnsoundTable,
+    // 5 to 10 and 16.
+    Packet(PacketError),
+    // 11: no live connection matches, and it is not SYN without ACK from side 0.
+    Unmatched,
+    // 12: such a SYN, but no place is free or expired.
+    TableFull,
+    // 13 to 15.
+    Segment(SegmentError),
+}
+
+// What a pass stores: the clock used, and the entry that it leaves at a place.
+#[derive(Clone, Copy)]
+struct Pass {
+    place: usize,
+    clock: Clock,
+    entry: Entry,
+}
+
+// What rows 1 to 4 let through: a sound table, the clock used and the packet's side.
+#[derive(Clone, Copy)]
+struct Call<'a> {
+    table: Table<'a>,
+    clock: Clock,
+    side: u8,
+}
+
+// A segment with its addresses and ports, the side that it comes from, and the clock used.
+#[derive(Clone, Copy)]
+struct Arrival {
+    clock: Clock,
+    side: u8,
+    flow: Flow,
+    segment: Segment,
+}
+
+impl BlockReason {
+    // The answer that the documents number; by a match, as some reasons have the number of what they carry.
+    fn number(self) -> u32
+        ensures { result ≡ reason_number self }
+    {
+        match self {
+            BlockReason::UnknownSide => 1,
+            BlockReason::ClockTooLarge => 2,
+            BlockReason::TableLength => 3,
+            BlockReason::UnsoundTable => 4,
+            BlockReason::Packet(error) => error.cause.number(),
+            BlockReason::Unmatched => 11,
+            BlockReason::TableFull => 12,
+            BlockReason::Segment(error) => error.number(),
+        }
+    }
+
+    // The place of the answer: where the packet broke, or none.
+    fn place(self) -> usize
+        ensures { result ≡ reason_place self }
+    {
+        match self {
+            BlockReason::Packet(error) => error.offset,
+            _ => NOWHERE,
+        }
     }
 }
 
-// Refused, with its place.
-fn blocked_at(answer: u32, place: usize) -> Decision
-    ensures { result ≡ decision_of (Blocked answer place) }
-{
-    let entry = free_entry();
-    Decision {
-        answer: answer,
-        place: place,
-        clock: 0,
-        entry: entry,
+impl From<PacketError> for BlockReason {
+    ghost from_gives = { λ error reason. reason ≡ Packet error };
+
+    fn from(error: PacketError) -> BlockReason {
+        BlockReason::Packet(error)
     }
 }
 
-// Every answer but the packet reader's and a pass gives place 65,535.
-fn blocked(answer: u32) -> Decision
-    ensures { result ≡ decision_of (Blocked answer nowhere) }
-{
-    blocked_at(answer, 65535)
-}
+impl From<SegmentError> for BlockReason {
+    ghost from_gives = { λ error reason. reason ≡ Segment error };
 
-fn passed(place: usize, clock: u64, entry: Entry) -> Decision
-    ensures { result ≡ decision_of (Passed place clock (viewed entry)) }
-{
-    Decision {
-        answer: 0,
-        place: place,
-        clock: clock,
-        entry: entry,
+    fn from(error: SegmentError) -> BlockReason {
+        BlockReason::Segment(error)
     }
 }
 
-// The end that sent a matching segment: 0 the opener, 1 the answerer.
+// The end that sent a matching segment, by its side.
 #[tactic(auto, using(choice::proofs::Choice::when_cond), unfolding(rows::specs::Rows::sender_of))]
-fn sender(entry: Entry, side: u8) -> usize
-    ensures { (result ≡ sender_of connections (viewed entry) side) × (result < 2) }
+fn sender(entry: Entry, side: u8) -> Sender
+    ensures { end_of result ≡ sender_of connections (viewed entry) side }
 {
     if side == entry.connection.side {
-        return 0;
+        Sender::Opener
+    } else {
+        Sender::Answerer
     }
-    1
 }
 
 // An entry by its connection after a pass: free, if the pass has freed that.
-#[tactic(auto, using(choice::proofs::Choice::when_cond), unfolding(rows::specs::Rows::entry_with))]
+#[tactic(auto, using(choice::proofs::Choice::when_cond, crate::proofs::Free::entry_by_default), unfolding(rows::specs::Rows::entry_with))]
 fn entry_after(entry: Entry, after: Connection) -> Entry
     ensures { result ≡ stored (entry_with connections (viewed entry) after) }
 {
-    let key = entry.key;
-    let stage = after.stage;
-    match stage {
-        0 => free_entry(),
+    match after.stage {
+        0 => Entry::default(),
         _ => Entry {
-            key: key,
             connection: after,
+            ..entry
         },
     }
 }
 
-// Rows 13 to 15 and 0, for a segment that matches the entry at a place.
-fn on_entry(entry: Entry, place: usize, clock: u64, side: u8, segment: Segment) -> Decision
-    requires { clock < 2 ^ 48 }
-    ensures { result ≡ decision_of (on_entry connections (viewed entry) place clock side segment) }
-{
-    let from = sender(entry, side);
-    let connection = entry.connection;
-    let decided = connection.decide(from, segment, clock);
-    let verdict = decided.verdict;
-    let after = decided.connection;
-    match verdict {
-        Verdict::Pass => passed(place, clock, entry_after(entry, after)),
-        _ => blocked(verdict.number()),
-    }
-}
-
-// The entry that an opening SYN makes.
-#[tactic(auto, using(choice::proofs::Choice::when_cond), unfolding(rows::specs::Rows::opening_entry))]
-fn opening_entry(clock: u64, side: u8, flow: Flow, segment: Segment) -> Entry
-    requires { clock < 2 ^ 48 }
-    ensures { result ≡ stored (opening_entry connections clock side flow segment) }
-{
-    let connection = Connection::opened(side, segment, clock);
-    Entry {
-        key: flow,
-        connection: connection,
-    }
-}
-
-// Rows 11, 12 and 0, for a segment that no live connection matches.
-#[tactic(auto, using(choice::proofs::Choice::when_cond), unfolding(entry::specs::Layout::place_at, rows::specs::Rows::unmatched))]
-fn unmatched(
-    version: Version,
-    table: &[u8],
-    places: usize,
-    clock: u64,
-    side: u8,
-    flow: Flow,
-    segment: Segment,
-) -> Decision
-    requires { (place_at version places ≤ length table.now) × (clock < 2 ^ 48) }
-    ensures { result ≡ decision_of (unmatched connections (view_of version table.now places) clock side flow segment) }
-{
-    if side != 0 {
-        return blocked(11);
-    }
-    let flags = segment.flags;
-    match flags {
-        2 => {
-            let found = vacant(version, table, places, clock);
-            match found {
-                Found::At(place) => passed(place, clock, opening_entry(clock, side, flow, segment)),
-                Found::Nothing => blocked(12),
-            }
+impl Arrival {
+    // Rows 11 to 15 and 0, on a sound table.
+    #[tactic(auto, using(choice::proofs::Choice::when_cond), unfolding(rows::specs::Rows::on_segment))]
+    fn on_table(self, table: &Table) -> Result<Pass, BlockReason>
+        ensures { let w = view_of table.now.version table.now.bytes.now table.now.places in
+            outcome_of_result result ≡ on_segment connections w self.clock.ms self.side self.flow self.segment }
+    {
+        match table.find(self.clock.ms, self.side, self.flow) {
+            Some(place) => self.on_entry(place, table.load(place)),
+            None => self.unmatched(table),
         }
-        _ => blocked(11),
+    }
+
+    // Rows 13 to 15 and 0, for a match at a place.
+    #[tactic(auto, using(choice::proofs::Choice::when_cond), unfolding(rows::specs::Rows::on_entry, connection::specs::Decision::decided))]
+    fn on_entry(self, place: usize, entry: Entry) -> Result<Pass, BlockReason>
+        ensures { outcome_of_result result ≡ on_entry connections (viewed entry) place self.clock.ms self.side self.segment }
+    {
+        let sender = sender(entry, self.side);
+        let after = entry.connection.decide(sender, self.segment, self.clock)?;
+        Ok(Pass {
+            place,
+            clock: self.clock,
+            entry: entry_after(entry, after),
+        })
+    }
+
+    // Rows 11, 12 and 0, for a segment that no live connection matches.
+    #[tactic(auto, using(choice::proofs::Choice::when_cond), unfolding(rows::specs::Rows::unmatched))]
+    fn unmatched(self, table: &Table) -> Result<Pass, BlockReason>
+        ensures { let w = view_of table.now.version table.now.bytes.now table.now.places in
+            outcome_of_result result ≡ unmatched connections w self.clock.ms self.side self.flow self.segment }
+    {
+        if self.side != 0 || self.segment.flags != SYN {
+            return Err(BlockReason::Unmatched);
+        }
+        let place = table.vacant(self.clock.ms).ok_or(BlockReason::TableFull)?;
+        Ok(Pass {
+            place,
+            clock: self.clock,
+            entry: self.opening_entry(),
+        })
+    }
+
+    // The entry that an opening SYN makes.
+    #[tactic(auto, unfolding(rows::specs::Rows::opening_entry))]
+    fn opening_entry(self) -> Entry
+        ensures { result ≡ stored (opening_entry connections self.clock.ms self.side self.flow self.segment) }
+    {
+        Entry {
+            key: self.flow,
+            connection: Connection::opened(self.side, self.segment, self.clock),
+        }
     }
 }
 
-// Rows 11 to 15 and 0, on a sound table by the clock used.
-fn on_segment(
-    version: Version,
-    table: &[u8],
-    places: usize,
-    clock: u64,
-    side: u8,
-    flow: Flow,
-    segment: Segment,
-) -> Decision
-    requires { (place_at version places ≤ length table.now) × (clock < 2 ^ 48) }
-    ensures { result ≡ decision_of (on_segment connections (view_of version table.now places) clock side flow segment) }
-{
-    let found = find(version, table, places, clock, side, flow);
-    match found {
-        Found::At(place) => on_entry(load(version, table, place), place, clock, side, segment),
-        Found::Nothing => unmatched(version, table, places, clock, side, flow, segment),
+impl Pass {
+    // Writes the clock used and the entry. The table is lent to be written here, which no Table or Place is.
+    fn store(self, version: Version, table: &mut [u8])
+        requires { place_at version self.place + entry_size version ≤ length table.old }
+        ensures { table.new ≡ with_entry version table.old self.place self.clock.ms self.entry }
+    {
+        set_clock(table, self.clock.ms);
+        store(version, table, self.place, self.entry);
     }
-}
-
-// A pass stores the clock used and its entry; every other answer changes no byte.
-#[tactic(auto, using(choice::proofs::Choice::when_cond), unfolding(crate::specs::Decision::table_left_by))]
-fn commit(version: Version, table: &mut [u8], decision: Decision)
-    requires { PassInside version table.old decision }
-    ensures { table.new ≡ table_left_by version table.old decision }
-{
-    if decision.answer != 0 {
-        return;
-    }
-    set_clock(table, decision.clock);
-    store(version, table, decision.place, decision.entry);
 }
 
 // Row 3: a header and n entries with n from 1 to 512.
+#[tactic(auto, using(crate::proofs::Rows::offsets), unfolding(crate::specs::Length::legal_length))]
 fn legal_length(version: Version, n: usize) -> bool
     ensures { result ≡ legal_length version n }
 {
-    if n < place_at(version, 1) {
-        return false;
-    }
-    let entries = n - place_at(version, 0);
-    if entries % entry_size(version) != 0 {
-        return false;
-    }
-    n <= place_at(version, 512)
+    place_at(version, 1) <= n
+        && (n - place_at(version, 0)) % entry_size(version) == 0
+        && n <= place_at(version, 512)
 }
 
 // How many entries a table of n bytes has. Divided by literals: by `entry_size` the compiler makes a slower loop of the scan.
+#[tactic(auto, using(crate::proofs::Rows::offsets), unfolding(crate::specs::Length::places_for))]
 fn places_for(version: Version, n: usize) -> usize
     requires { header_size ≤ n }
     ensures { result ≡ places_for version n }
@@ -242,102 +244,78 @@ fn places_for(version: Version, n: usize) -> usize
     }
 }
 
-// The larger of the clock given and the header's.
-fn clock_used(table: &[u8], given: u64) -> u64
-    requires { header_size ≤ length table.now }
-    ensures { result ≡ max given (header_clock table.now) }
-{
-    let header = table::clock(table);
-    if given < header {
-        return header;
+impl<'a> Call<'a> {
+    // Rows 1 to 4.
+    #[tactic(auto, using(choice::proofs::Choice::when_cond, crate::proofs::Rows::lengths), unfolding(crate::specs::Call::outcome_of))]
+    fn of(version: Version, side: u32, clock: u64, bytes: &'a [u8]) -> Result<Self, BlockReason>
+        ensures { (read : PacketRead) → outcome_on result read ≡ outcome_of version side clock bytes.now read }
+    {
+        if 1 < side {
+            return Err(BlockReason::UnknownSide);
+        }
+        if CLOCK_LIMIT <= clock {
+            return Err(BlockReason::ClockTooLarge);
+        }
+        if !legal_length(version, bytes.len()) {
+            return Err(BlockReason::TableLength);
+        }
+        let places = places_for(version, bytes.len());
+        let table = Table {
+            version,
+            bytes,
+            places,
+        };
+        if !table.is_sound() {
+            return Err(BlockReason::UnsoundTable);
+        }
+        Ok(Call {
+            table,
+            clock: Clock {
+                ms: clock.max(table.clock()),
+            },
+            side: side as u8,
+        })
     }
-    given
-}
 
-// Rows 5 to 16 and 0, by what was read of the packet, on a sound table by the clock used.
-fn on_read(
-    version: Version,
-    table: &[u8],
-    places: usize,
-    clock: u64,
-    side: u8,
-    read: PacketRead,
-) -> Decision
-    requires { (place_at version places ≤ length table.now) × (clock < 2 ^ 48) }
-    ensures { result ≡ decision_of (packet_rows Blocked read (on_segment connections (view_of version table.now places) clock side)) }
-{
-    match read {
-        PacketRead::Refused(cause, offset) => blocked_at(cause.number(), offset),
-        PacketRead::Tcp(flow, segment) => on_segment(
-            version, table, places, clock, side, flow, segment,
-        ),
-    }
-}
-
-// Rows 1 to 4: the number of the first that applies, or 0.
-#[tactic(auto, using(choice::proofs::Choice::when_cond), unfolding(crate::specs::Decision::table_refusal))]
-fn table_refusal(version: Version, side: u32, clock: u64, table: &[u8]) -> u32
-    ensures { result ≡ table_refusal version side clock table.now }
-{
-    if 1 < side {
-        return 1;
-    }
-    if 281_474_976_710_656 <= clock {
-        return 2;
-    }
-    if !legal_length(version, table.len()) {
-        return 3;
-    }
-    if !sound(version, table, places_for(version, table.len())) {
-        return 4;
-    }
-    0
-}
-
-// What a call comes to that rows 1 to 4 don't refuse.
-fn decide(version: Version, side: u32, clock: u64, table: &[u8], read: PacketRead) -> Decision
-    requires { table_refusal version side clock table.now ≡ 0 }
-    ensures { result ≡ decision_of (outcome_of version side clock table.now read) }
-{
-    let places = places_for(version, table.len());
-    let used = clock_used(table, clock);
-    // By row 1 it is 0 or 1.
-    let side = side as u8;
-    on_read(version, table, places, used, side, read)
-}
-
-// The answer and the place of such a call, and the table that it leaves.
-fn on_sound_table(
-    version: Version,
-    side: u32,
-    clock: u64,
-    table: &mut [u8],
-    read: PacketRead,
-) -> Reply
-    requires { table_refusal version side clock table.old ≡ 0 }
-    ensures { let o = outcome_of version side clock table.old read in
-        (result ≡ reply_of o) × (table.new ≡ table_after version table.old o) }
-{
-    let decision = decide(version, side, clock, table, read);
-    commit(version, table, decision);
-    Reply {
-        answer: decision.answer,
-        place: decision.place,
+    // Rows 5 to 16 and 0, by what was read of the packet.
+    fn on_read(self, read: PacketRead) -> Result<Pass, BlockReason>
+        ensures { outcome_of_result result ≡ outcome_on (Ok self.entry) read }
+    {
+        let (flow, segment) = read?;
+        let arrival = Arrival {
+            clock: self.clock,
+            side: self.side,
+            flow,
+            segment,
+        };
+        arrival.on_table(&self.table)
     }
 }
 
-// One call of the IPv4 filter: the answer and the place, and the table that it leaves. The packet is read after rows 1 to 4, in the list's
-// order; read before them, a scan of one place takes 1.1 times as long.
+// What a call comes to. The packet is read after rows 1 to 4, in the list's order; read before them, a scan of one place takes 1.1 times as long.
+fn decide_ipv4(side: u32, clock: u64, table: &[u8], packet: &[u8]) -> Result<Pass, BlockReason>
+    ensures { outcome_of_result result ≡ ipv4_outcome side clock table.now packet.now }
+{
+    let call = Call::of(Version::V4, side, clock, table)?;
+    call.on_read(read_ipv4(packet))
+}
+
+// One call of the IPv4 filter: the answer and the place, and the table that it leaves.
 pub fn filter_ipv4(side: u32, clock: u64, table: &mut [u8], packet: &[u8]) -> Reply
     ensures { let o = ipv4_outcome side clock table.old packet.now in
         (result ≡ reply_of o) × (table.new ≡ table_after Version.V4 table.old o) }
 {
-    let refused = table_refusal(Version::V4, side, clock, table);
-    if refused != 0 {
-        return Reply {
-            answer: refused,
-            place: 65535,
-        };
+    match decide_ipv4(side, clock, table, packet) {
+        Ok(pass) => {
+            pass.store(Version::V4, table);
+            Reply {
+                answer: 0,
+                place: pass.place,
+            }
+        }
+        Err(reason) => Reply {
+            answer: reason.number(),
+            place: reason.place(),
+        },
     }
-    on_sound_table(Version::V4, side, clock, table, read_ipv4(packet))
 }
