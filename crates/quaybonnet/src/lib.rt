@@ -8,6 +8,7 @@ ghost use Rattle.trace.specs.Write.{line_after_writing, writing};
 ghost use Rattle.quaybonnet.specs.Packed.{packed};
 
 use address::Version;
+use trace::{ReadAnswer, WriteAnswer};
 
 // The answer and the place as one number.
 fn pack(answer: u32, place: usize) -> u32
@@ -45,7 +46,7 @@ pub extern "C" fn qb_read_line(
         × (offset.new ≡ a.offset)
         × (packet.new ≡ packet_after_reading line.now packet.old) }
 {
-    let read = trace::read_line(line, packet).answer();
+    let read = ReadAnswer::from(trace::read_line(line, packet));
     *side = read.side;
     *clock = read.clock;
     *length = read.length;
@@ -67,7 +68,7 @@ pub extern "C" fn qb_write_line(
         × (length.new ≡ a.length)
         × (line.new ≡ line_after_writing side clock packet.now line.old) }
 {
-    let written = trace::write_line(side, clock, packet, line).answer();
+    let written = WriteAnswer::from(trace::write_line(side, clock, packet, line));
     *length = written.length;
     written.number
 }

@@ -1,13 +1,17 @@
 -- Laws of a line in a piece: its bytes up to the newline are kept, as many as there is room for.
-use Rattle.std.proofs.Common.{◌≡◌, ℕ, zero, suc, ◌+◌, ◌-◌, ◌<◌, ◌≤◌, min, true, false, List, [], ◌∷◌, length, get_or, take, drop, set, sym, refl, ap, ◌∙◌, ⊎_elim, add-one, arith, length-drop, length-set, drop_of_length-le, get_or-drop, take_all, drop-cons, drop-drop, eqb-true}
-use borrow.Author.Tests.{eqb-false}
+use Rattle.std.proofs.Common.{◌≡◌, ℕ, zero, suc, ◌+◌, ◌-◌, ◌<◌, ◌≤◌, min, true, false, List, [], ◌∷◌, length, get_or, take, drop, set, sym, refl, ap, ◌∙◌, ⊎_elim, add-one, arith, length-set, drop_of_length-le, take_all, drop-cons, eqb-true}
+use borrow.Author.Tests.{eq-eqb, eqb-false}
+use native.Mathlib.Nat.{zero-add}
+use Rattle.std.proofs.Common.{Option, Some, None}
+use Rattle.std.specs.Option.{unwrap_or}
+use Rattle.memchr.specs.Find.{is_byte, IsFirstByte}
 use Rattle.choice.specs.Choice.{◌=ᵇ◌}
-use Rattle.choice.proofs.Choice.{when-true, when-false, when-cases, when-<, when-<-not, when-=, when-=-not}
+use Rattle.choice.proofs.Choice.{when-true, when-false, when-cases, when-either, when-<, when-<-not, when-=, when-=-not}
 use Rattle.choice.proofs.Tests.{true-or-false, lt-or-ge}
 use Rattle.octets.specs.Overwrite.{overwrite}
 use Rattle.octets.proofs.Overwrite.{overwrite-nothing, set≡overwrite, overwrite-join}
 use Rattle.replay.specs.Printed.{newline}
-use Rattle.replay.specs.Feed.{Memory, memory, with_kept, with_byte, with_line, after_byte, after_piece, before_newline, fitting}
+use Rattle.replay.specs.Feed.{Memory, memory, with_kept, with_byte, with_line, after_byte, after_piece, before_newline, with_fitting}
 
 -- The first newline
 
@@ -39,6 +43,20 @@ before_newline-block (suc n) l i fits none =
 pub before_newline-end : (l : List ℕ) (i : ℕ) → length l ≤ i → before_newline (drop i l) ≡ 0
 unfolding before_newline
 before_newline-end l i past = rw (drop_of_length-le l past)
+
+-- the search finds it
+pub found-newline : (l : List ℕ) (r : Option ℕ) → IsFirstByte (is_byte newline) l r → unwrap_or r (length l) ≡ before_newline l
+found-newline l None none =
+    let past = rw (zero-add, zero-add) at (before_newline-block (length l) l 0 (omega arith) (λ k h e. none k (omega arith) (omega arith) (eq-eqb _ _ (rw zero-add at e)))) in
+    omega (arith, past, before_newline-end l (length l) (omega arith))
+found-newline l (Some k) first =
+    let past = rw (zero-add, zero-add) at (before_newline-block k l 0 (omega (arith, first.0.high)) (λ j h e. first.0.before j (omega arith) h (eq-eqb _ _ (rw zero-add at e)))) in
+    omega (arith, past, before_newline-here l k first.0.high (eqb-true _ _ first.1))
+
+pub before_newline≤length : (l : List ℕ) → before_newline l ≤ length l
+unfolding before_newline
+before_newline≤length [] = omega arith
+before_newline≤length (b ∷ l) = when-either (λ n. n ≤ length (b ∷ l)) (b =ᵇ newline) 0 (suc (before_newline l)) (omega arith) (omega (arith, before_newline≤length l))
 
 -- One more byte
 
@@ -130,18 +148,12 @@ after_piece-kept m (b ∷ bytes) =
     (after_piece-at-other m b bytes (eqb-false b newline t) ∙ after_piece-kept (with_byte m b) bytes))
     (true-or-false (b =ᵇ newline))
 
--- the bytes of a piece from at on, up to a newline or the end, are kept
+-- the bytes of a piece up to a newline or the end are kept
 pub after_piece-line :
-    (m : Memory) (piece line : List ℕ) (at end kept : ℕ) → m.progress.kept ≤ length m.line →
-    end ≡ at + before_newline (drop at piece) →
-    (kept ≡ m.progress.kept + length (fitting m.line m.progress.kept (take (end - at) (drop at piece)))) × (line ≡ overwrite m.line m.progress.kept (fitting m.line m.progress.kept (take (end - at) (drop at piece)))) →
-    after_piece m (drop at piece) ≡ after_piece (memory m.table line m.out (with_kept m.progress kept)) (drop end piece)
-after_piece-line m piece line at end kept inside is added =
-    let k = before_newline (drop at piece) in
-    let count : end - at ≡ k = omega arith in
-    let room = with_bytes-room m (length m.line - m.progress.kept) (take k (drop at piece)) (omega arith) in
-    after_piece-kept m (drop at piece)
-    ∙ rw (added.0, added.1, count, room, drop-drop k at piece, is)
+    (m : Memory) (piece : List ℕ) (end : ℕ) → m.progress.kept ≤ length m.line → end ≡ before_newline piece →
+    after_piece m piece ≡ after_piece (with_fitting m (take end piece)) (drop end piece)
+after_piece-line m piece end inside is =
+    after_piece-kept m piece ∙ rw (← is, with_bytes-room m (length m.line - m.progress.kept) (take end piece) (omega arith))
 
 -- nothing is left at the end of a piece
 pub after_piece-end : (m : Memory) (piece : List ℕ) (end : ℕ) → length piece ≤ end → after_piece m (drop end piece) ≡ m
@@ -157,12 +169,10 @@ newline-there (b ∷ l) inside =
 
 -- and the newline ends the line
 pub after_piece-newline :
-    (m : Memory) (piece : List ℕ) (at end : ℕ) → end ≡ at + before_newline (drop at piece) → end < length piece →
+    (m : Memory) (piece : List ℕ) (end : ℕ) → end ≡ before_newline piece → end < length piece →
     after_piece m (drop end piece) ≡ after_piece (with_line m) (drop (end + 1) piece)
-after_piece-newline m piece at end is inside =
-    let k = before_newline (drop at piece) in
-    let byte : get_or piece end 0 ≡ newline =
-    ap (λ (i : ℕ). get_or piece i 0) is ∙ sym (get_or-drop at piece k 0) ∙ newline-there (drop at piece) (rw (length-drop at piece) (omega arith)) in
+after_piece-newline m piece end is inside =
+    let byte : get_or piece end 0 ≡ newline = rw (← is) at (newline-there piece (omega arith)) in
     ap (after_piece m) (drop-cons piece end 0 inside)
     ∙ after_piece-at-newline m (get_or piece end 0) (drop (suc end) piece) byte
     ∙ ap (λ i. after_piece (with_line m) (drop i piece)) (sym (add-one end))

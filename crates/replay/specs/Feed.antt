@@ -1,9 +1,8 @@
 -- What is printed of a trace, byte by byte in the memory of a program that is given its input in pieces.
-use Rattle.std.specs.Prelude.{ℕ, suc, ◌+◌, ◌-◌, ◌%◌, ◌^◌, List, [], ◌∷◌, length, take, slice_set}
+use Rattle.std.specs.Prelude.{ℕ, suc, ◌+◌, ◌-◌, ◌%◌, ◌^◌, List, [], ◌∷◌, length, take, slice_set, Option}
 use Rattle.choice.specs.Choice.{when◌then◌else◌, ◌<ᵇ◌, ◌=ᵇ◌}
 use Rattle.octets.specs.Overwrite.{overwrite}
 use Rattle.report.specs.Text.{result_text, total_text}
-use Rattle.report.specs.declared.Shown.{Shown}
 use Rattle.replay.specs.Printed.{newline, Result, result_of, pass_count}
 use Rattle.replay.specs.declared.Progress.{Progress}
 
@@ -16,6 +15,9 @@ pub record Memory : Type 0 where
 
 abbrev pub memory : List ℕ → List ℕ → List ℕ → Progress → Memory
 memory t l o p = record { table = t; line = l; out = o; progress = p }
+
+abbrev pub with_table : Memory → List ℕ → Memory
+with_table m t = memory t m.line m.out m.progress
 
 -- A byte of a line
 
@@ -32,7 +34,7 @@ with_byte m b =
 -- The end of a line
 
 -- totals are kept modulo 2^64
-abbrev pub with_answer : Progress → ℕ → Shown → Progress
+abbrev pub with_answer : Progress → ℕ → Option ℕ → Progress
 with_answer p answer shown =
     record { kept = 0; used = p.used + length (result_text answer shown); passed = (p.passed + pass_count answer) % 2 ^ 64; lines = (p.lines + 1) % 2 ^ 64 }
 
@@ -79,3 +81,10 @@ before_newline (b ∷ bytes) = when b =ᵇ newline then 0 else suc (before_newli
 -- those bytes of a line that a buffer has room for, which holds some of it already
 abbrev pub fitting : List ℕ → ℕ → List ℕ → List ℕ
 fitting line kept bytes = take (length line - kept) bytes
+
+-- and they are kept
+abbrev pub with_fitting : Memory → List ℕ → Memory
+with_fitting m bytes =
+    let p = m.progress in
+    let more = fitting m.line p.kept bytes in
+    memory m.table (overwrite m.line p.kept more) m.out (with_kept p (p.kept + length more))

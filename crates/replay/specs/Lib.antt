@@ -1,3 +1,4 @@
 pub mod Printed
 pub mod Feed
+pub mod Run
 pub mod Written

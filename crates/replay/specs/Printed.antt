@@ -1,13 +1,12 @@
 -- What is printed of a trace (document 01, "Trace lines"), told of the whole input. Input, lines and text are lists of bytes.
-use Rattle.std.specs.Prelude.{◌≡◌, ℕ, ◌+◌, List, [], ◌∷◌, ◌++◌, length, ◌≢◌}
+use Rattle.std.specs.Prelude.{◌≡◌, ℕ, ◌+◌, List, [], ◌∷◌, ◌++◌, length, ◌≢◌, Option, Some, None, Ok, Err, Result as OkOrErr}
 use Rattle.choice.specs.Choice.{when◌then◌else◌, ◌=ᵇ◌}
 use Rattle.trace.specs.Line.{line_packet}
 use Rattle.trace.specs.Read.{read_line, read_answer}
-use Rattle.trace.specs.declared.LineRead.{LineRead}
-use Rattle.trace.specs.declared.LineRead.TheVariants.{TooLong, Malformed, NoRoom, Frame}
+use Rattle.trace.specs.declared.Frame.{Frame}
+use Rattle.trace.specs.declared.ReadLineError.{ReadLineError}
+use Rattle.trace.specs.declared.ReadLineError.TheVariants.{TooLong, Malformed, NoRoom}
 use Rattle.report.specs.Text.{shown_place, result_text, total_text}
-use Rattle.report.specs.declared.Shown.{Shown}
-use Rattle.report.specs.declared.Shown.TheVariants.{Number, Dash}
 use Rattle.address.specs.declared.Version.TheVariants.{V4}
 use Rattle.packet.specs.Read.{read_ipv4}
 use Rattle.packet.specs.Reader.{PacketAnswer, BrokenAt}
@@ -32,7 +31,7 @@ lines_of input = lines_from [] input
 -- what a line comes to: its answer, what is shown after it, and the table that it leaves
 pub record Result : Type 0 where
   pub answer : ℕ
-  pub shown : Shown
+  pub shown : Option ℕ
   pub table : List ℕ
 
 -- a line's packet has at most 2,048 bytes, so reading never lacks room: `Never23`
@@ -43,12 +42,16 @@ room = 2048
 abbrev pub of_call : List ℕ → Outcome → Result
 of_call t o = record { answer = (reply_of o).answer; shown = shown_place (reply_of o).place; table = table_after V4 t o }
 
--- the offset for 22, `-` for 21; a line refused by the reader isn't shown to the filter
-abbrev pub of_read : LineRead → List ℕ → List ℕ → Result
-of_read TooLong line t = record { answer = (read_answer TooLong).number; shown = Dash; table = t }
-of_read (Malformed offset) line t = record { answer = (read_answer (Malformed offset)).number; shown = Number offset; table = t }
-of_read NoRoom line t = record { answer = (read_answer NoRoom).number; shown = Dash; table = t }
-of_read (Frame side clock n) line t = of_call t (ipv4_outcome side clock t (line_packet line))
+-- the offset for 22, `-` for 21
+abbrev pub shown_offset : ReadLineError → Option ℕ
+shown_offset TooLong = None
+shown_offset (Malformed offset) = Some offset
+shown_offset NoRoom = None
+
+-- a line refused by the reader isn't shown to the filter
+abbrev pub of_read : OkOrErr Frame ReadLineError → List ℕ → List ℕ → Result
+of_read (Err e) line t = record { answer = (read_answer (Err e)).number; shown = shown_offset e; table = t }
+of_read (Ok f) line t = of_call t (ipv4_outcome f.side f.clock t (line_packet line))
 
 unfoldable pub result_of : List ℕ → List ℕ → Result
 result_of line t = of_read (read_line line room) line t
@@ -59,7 +62,7 @@ Never23 = (line t : List ℕ) → (result_of line t).answer ≢ 23
 
 -- after 5 to 10 and 16 the offset is shown at which the packet broke, never `-`
 abbrev pub ShowsOffset : List ℕ → Result → Type 0
-ShowsOffset packet s = PacketAnswer s.answer → (offset : ℕ) × BrokenAt read_ipv4 packet s.answer offset × (s.shown ≡ Number offset)
+ShowsOffset packet s = PacketAnswer s.answer → (offset : ℕ) × BrokenAt read_ipv4 packet s.answer offset × (s.shown ≡ Some offset)
 
 abbrev pub EveryLineShowsOffset : Type 0
 EveryLineShowsOffset = (line t : List ℕ) → ShowsOffset (line_packet line) (result_of line t)

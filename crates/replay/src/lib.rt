@@ -1,23 +1,21 @@
 // Runs a trace whose input comes in pieces: document 01, "Trace lines". A program adds the reading and the writing.
 #![tactic(auto)]
 
-ghost use Rattle.std.specs.Prelude.{◌≡◌, ℕ, ◌+◌, ◌*◌, ◌<◌, ◌≤◌, min, length, drop, slice_index};
-ghost use Rattle.octets.specs.Overwrite.{overwrite};
+ghost use Rattle.std.specs.Prelude.{◌≡◌, ◌+◌, ◌*◌, ◌≤◌, length, take};
 ghost use Rattle.report.specs.Text.{result_text};
-ghost use Rattle.replay.specs.Printed.{result_of, pass_count};
-ghost use Rattle.replay.specs.Feed.{memory, with_used, with_answer, with_line, after_piece, at_end, with_total, before_newline, fitting};
-ghost use Rattle.replay.specs.Written.{at_start, line_room, result_room, total_room};
+ghost use Rattle.trace.specs.Read.{read_line, packet_after_reading};
+ghost use Rattle.replay.specs.Printed.{shown_offset, result_of};
+ghost use Rattle.replay.specs.Feed.{with_table, with_fitting, with_result, with_line, after_piece, at_end, with_total, before_newline};
+ghost use Rattle.replay.specs.Written.{line_room, result_room, total_room};
 
-use octets::least;
-use report::Shown;
-use std::num::wrapping_add_u64;
-use trace::LineRead;
+use memchr::memchr;
+use trace::{Frame, ReadAnswer, ReadLineError};
 
 // The longest packet of a line.
 type Packet = [u8; 2048];
 
 // How far a run is.
-#[derive(Clone, Copy)]
+#[derive(Clone, Copy, Debug, Default, PartialEq, Eq)]
 pub struct Progress {
     // Bytes of the line that has not ended yet.
     pub kept: usize,
@@ -28,232 +26,165 @@ pub struct Progress {
     pub lines: u64,
 }
 
-// What a line comes to.
-#[derive(Clone, Copy)]
-struct Answered {
-    answer: u32,
-    shown: Shown,
+// How many bytes stand before the first newline, all where there is none, as the definition has it.
+fn before_newline(bytes: &[u8]) -> usize
+    ensures { (result ≡ before_newline bytes.now) × (result ≤ length bytes.now) }
+{
+    memchr(b'\n', bytes).unwrap_or(bytes.len())
 }
 
-pub fn start() -> Progress
-    ensures { result ≡ at_start }
+// What is shown of a line that is not read: where it is malformed.
+fn shown_offset(error: ReadLineError) -> Option<usize>
+    ensures { result ≡ shown_offset error }
 {
-    Progress {
-        kept: 0,
-        used: 0,
-        passed: 0,
-        lines: 0,
+    match error {
+        ReadLineError::Malformed(offset) => Some(offset),
+        ReadLineError::TooLong | ReadLineError::NoRoom => None,
     }
 }
 
-// The output has been written.
-pub fn emptied(progress: Progress) -> Progress
-    ensures { result ≡ with_used progress 0 }
-{
-    Progress {
-        kept: progress.kept,
-        used: 0,
-        passed: progress.passed,
-        lines: progress.lines,
-    }
+// A run over a trace. `line` and `out` stay lent buffers with `kept` and `used` beside them: the theorems on what is written
+// (WritesPrinted, ProgramWritesPrinted) speak of both whole.
+#[derive(Drop)]
+pub struct TraceRun<'a> {
+    pub table: &'a mut [u8],
+    // The beginning of the line that has not ended yet.
+    pub line: &'a mut [u8],
+    // Text that is to be written. How much room it needs differs from call to call, so that their clauses ask for it.
+    pub out: &'a mut [u8],
+    pub progress: Progress,
+    // Room for one byte more than the longest line tells an over-long line.
+    pub ghost whole_line: { length line.now ≡ line_room },
+    pub ghost kept_inside: { progress.kept ≤ line_room },
 }
 
-fn smaller(a: u8, b: u8) -> u8
-    ensures { result ≡ min a b }
-{
-    if a < b { a } else { b }
-}
+impl TraceRun<'_> {
+    ghost use Rattle.replay.specs.Run.{memory_of};
 
-// A number no larger than any of 32 bytes: the smallest. It has no early return, so that many bytes are compared at a time.
-fn smallest(piece: &[u8], at: usize) -> u8
-    requires { at + 32 ≤ length piece.now }
-    ensures { (k : ℕ) → k < 32 → result ≤ slice_index piece.now (at + k) }
-{
-    let mut low: u8 = 255;
-    let mut i = 0;
-    while i < 32 {
-        low = smaller(low, piece[at + i]);
-        i += 1;
-    }
-    low
-}
-
-// Skips blocks of 32 bytes that are all larger than a newline, as those of a legal line are.
-fn skip_blocks(piece: &[u8], at: usize) -> usize
-    requires { at ≤ length piece.now }
-    ensures { (result + before_newline (drop result piece.now) ≡ at + before_newline (drop at piece.now))
-        × (at ≤ result)
-        × (result ≤ length piece.now) }
-{
-    let mut i = at;
-    while 32 <= piece.len() - i {
-        if smallest(piece, i) <= b'\n' {
-            return i;
-        }
-        i += 32;
-    }
-    i
-}
-
-// Where the first newline from at on is, or the end of the piece.
-fn newline_from(piece: &[u8], at: usize) -> usize
-    requires { at ≤ length piece.now }
-    ensures { (result ≡ at + before_newline (drop at piece.now)) × (at ≤ result) × (result ≤ length piece.now) }
-{
-    let mut i = skip_blocks(piece, at);
-    while i < piece.len() {
-        if piece[i] == b'\n' {
-            return i;
-        }
-        i += 1;
-    }
-    i
-}
-
-// Keeps further bytes of a line, and gives how many are kept then; what there is no room for is dropped.
-fn keep(bytes: &[u8], line: &mut [u8], kept: usize) -> usize
-    requires { kept ≤ length line.old }
-    ensures { (result ≡ kept + length (fitting line.old kept bytes.now))
-        × (line.new ≡ overwrite line.old kept (fitting line.old kept bytes.now))
-        × (result ≤ length line.old) }
-{
-    let n = least(line.len() - kept, bytes.len());
-    report::put_text(line, kept, &bytes[0..n])
-}
-
-// Answers a line; one that the reader refuses is not shown to the filter.
-fn answer_line(text: &[u8], packet: &mut Packet, table: &mut [u8]) -> Answered
-    ensures { record { answer = result.answer; shown = result.shown; table = table.new }
-        ≡ result_of text.now table.old }
-{
-    let read = trace::read_line(text, packet);
-    match read {
-        LineRead::TooLong => Answered {
-            answer: 21,
-            shown: Shown::Dash,
-        },
-        LineRead::Malformed(offset) => Answered {
-            answer: 22,
-            shown: Shown::Number(offset),
-        },
-        LineRead::NoRoom => Answered {
-            answer: 23,
-            shown: Shown::Dash,
-        },
-        LineRead::Frame {
-            side,
-            clock,
-            length,
-        } => {
-            let bytes = &packet[..];
-            let reply = filter::filter_ipv4(side as u32, clock, table, &bytes[0..length]);
-            Answered {
-                answer: reply.answer,
-                shown: report::shown_place(reply.place),
+    // Takes in a piece of the input: each line that ends in it is answered and its text added to the output; what follows the
+    // last newline is kept.
+    pub fn feed(&mut self, piece: &[u8])
+        requires { self.old.progress.used + result_room * length piece.now ≤ length self.old.out.now }
+        ensures result_after { memory_of self.new ≡ after_piece (memory_of self.old) piece.now }
+        ensures kept_in_bounds { (self.new.progress.kept ≤ length self.new.line.now)
+            × (self.new.progress.used ≤ length self.new.out.now) }
+        ensures same_room { length self.new.out.now ≡ length self.old.out.now }
+    {
+        let mut packet = [0u8; 2048];
+        let mut rest = piece;
+        // Over what is left of the piece; no index is counted.
+        loop {
+            let end = before_newline(rest);
+            self.keep(&rest[..end]);
+            if end == rest.len() {
+                return;
             }
+            self.end_line(&mut packet);
+            rest = &rest[end + 1..];
         }
     }
-}
 
-// What an answer adds to the answers 0.
-fn pass_count(answer: u32) -> u64
-    ensures { result ≡ pass_count answer }
-{
-    if answer == 0 { 1 } else { 0 }
-}
-
-// Adds the text of an answer to the output, and counts it.
-fn put_answer(out: &mut [u8], progress: Progress, answer: u32, shown: Shown) -> Progress
-    requires { progress.used + length (result_text answer shown) ≤ length out.old }
-    ensures { (result ≡ with_answer progress answer shown)
-        × (out.new ≡ overwrite out.old progress.used (result_text answer shown)) }
-{
-    let used = report::put_result(out, progress.used, answer, shown);
-    // The next line begins.
-    let kept = 0;
-    Progress {
-        kept: kept,
-        used: used,
-        passed: wrapping_add_u64(progress.passed, pass_count(answer)),
-        lines: wrapping_add_u64(progress.lines, 1),
+    // Ends the run: a last line without a newline, and the totals.
+    pub fn finish(&mut self)
+        requires { self.old.progress.used + result_room + total_room ≤ length self.old.out.now }
+        ensures result_after { memory_of self.new ≡ with_total (at_end (memory_of self.old)) }
+        ensures used_in_bounds { self.new.progress.used ≤ length self.new.out.now }
+        ensures same_room { length self.new.out.now ≡ length self.old.out.now }
+    {
+        self.end_input();
+        let Progress {
+            used,
+            passed,
+            lines,
+            ..
+        } = self.progress;
+        self.progress.used = report::put_total(self.out, used, passed, lines);
     }
-}
 
-// The line that is kept has ended.
-fn end_line(
-    line: &[u8],
-    packet: &mut Packet,
-    table: &mut [u8],
-    out: &mut [u8],
-    progress: Progress,
-) -> Progress
-    requires { (progress.kept ≤ length line.now) × (progress.used + result_room ≤ length out.old) }
-    ensures result_after { memory table.new line.now out.new result
-        ≡ with_line (memory table.old line.now out.old progress) }
-    ensures kept_value { (result.kept ≡ 0) × (result.used ≤ progress.used + result_room) }
-{
-    let kept = progress.kept;
-    let result = answer_line(&line[0..kept], packet, table);
-    let answer = result.answer;
-    let shown = result.shown;
-    put_answer(out, progress, answer, shown)
-}
+    // Keeps further bytes of a line; what there is no room for is dropped.
+    fn keep(&mut self, bytes: &[u8])
+        ensures result_after { memory_of self.new ≡ with_fitting (memory_of self.old) bytes.now }
+        ensures kept_in_bounds { self.new.progress.kept ≤ length self.new.line.now }
+    {
+        let kept = self.progress.kept;
+        let n = bytes.len().min(self.line.len() - kept);
+        self.progress.kept = report::put_text(self.line, kept, &bytes[..n]);
+    }
 
-// Takes in a piece of the input: each line that ends in it is answered and its text added to out; what follows the last newline
-// is kept in line.
-pub fn feed(
-    piece: &[u8],
-    line: &mut [u8],
-    table: &mut [u8],
-    out: &mut [u8],
-    from: Progress,
-) -> Progress
-    requires { (length line.old ≡ line_room) × (from.kept ≤ line_room) × (from.used + result_room * length piece.now ≤ length out.old) }
-    ensures result_after { memory table.new line.new out.new result
-        ≡ after_piece (memory table.old line.old out.old from) piece.now }
-    ensures kept_in_bounds { (result.kept ≤ length line.new) × (result.used ≤ length out.new) }
-{
-    let mut packet = [0u8; 2048];
-    let mut progress = from;
-    let mut at = 0;
-    loop {
-        let end = newline_from(piece, at);
-        progress.kept = keep(&piece[at..end], line, progress.kept);
-        if end == piece.len() {
-            return progress;
+    // The line that is kept has ended.
+    fn end_line(&mut self, packet: &mut Packet)
+        requires { self.old.progress.used + result_room ≤ length self.old.out.now }
+        ensures result_after { memory_of self.new ≡ with_line (memory_of self.old) }
+        ensures kept_value { (self.new.progress.kept ≡ 0) × (self.new.progress.used ≤ self.old.progress.used + result_room) }
+        ensures same_room { length self.new.out.now ≡ length self.old.out.now }
+    {
+        let (answer, shown) = self.answer_line(packet);
+        self.put_answer(answer, shown);
+    }
+
+    // Reads the line that is kept. By `&self`, as of a field lent through a `&mut self` a proof does not know that it came back the same.
+    fn read_kept(&self, packet: &mut Packet) -> Result<Frame, ReadLineError>
+        ensures { let text = take self.now.progress.kept self.now.line.now in
+            (result ≡ read_line text (length packet.old)) × (packet.new ≡ packet_after_reading text packet.old) }
+    {
+        let kept = self.progress.kept;
+        let line = &*self.line;
+        trace::read_line(&line[..kept], packet)
+    }
+
+    // The answer to the line that is kept, and what is shown after it; a line that the reader refuses is not shown to the filter.
+    #[tactic(auto, unfolding(crate::specs::Printed::result_of))]
+    fn answer_line(&mut self, packet: &mut Packet) -> (u32, Option<usize>)
+        ensures answered { record { answer = result.0; shown = result.1; table = self.new.table.now }
+            ≡ result_of (take self.old.progress.kept self.old.line.now) self.old.table.now }
+        ensures same { memory_of self.new ≡ with_table (memory_of self.old) self.new.table.now }
+    {
+        match self.read_kept(packet) {
+            Ok(frame) => {
+                let side = u32::from(frame.side);
+                let reply = filter::filter_ipv4(
+                    side,
+                    frame.clock,
+                    self.table,
+                    &packet[..frame.length],
+                );
+                (reply.answer, report::shown_place(reply.place))
+            }
+            Err(error) => (ReadAnswer::from(Err(error)).number, shown_offset(error)),
         }
-        progress = end_line(line, &mut packet, table, out, progress);
-        at = end + 1;
     }
-}
 
-// Ends the run: a last line without a newline, and the totals.
-pub fn finish(line: &[u8], table: &mut [u8], out: &mut [u8], progress: Progress) -> Progress
-    requires { (length line.now ≡ line_room) × (progress.kept ≤ line_room) × (progress.used + result_room + total_room ≤ length out.old) }
-    ensures result_after { memory table.new line.now out.new result
-        ≡ with_total (at_end (memory table.old line.now out.old progress)) }
-    ensures used_in_bounds { result.used ≤ length out.new }
-{
-    let last = end_input(line, table, out, progress);
-    let used = report::put_total(out, last.used, last.passed, last.lines);
-    Progress {
-        kept: last.kept,
-        used: used,
-        passed: last.passed,
-        lines: last.lines,
+    // Adds the text of an answer to the output, and counts it.
+    #[tactic(auto, using(choice::proofs::Choice::when_cond))]
+    fn put_answer(&mut self, answer: u32, shown: Option<usize>)
+        requires { self.old.progress.used + length (result_text answer shown) ≤ length self.old.out.now }
+        ensures { memory_of self.new ≡ with_result (memory_of self.old) (record { answer = answer; shown = shown; table = self.old.table.now }) }
+    {
+        let Progress {
+            used,
+            passed,
+            lines,
+            ..
+        } = self.progress;
+        self.progress = Progress {
+            // The next line begins.
+            kept: 0,
+            used: report::put_result(self.out, used, answer, shown),
+            passed: passed.wrapping_add(u64::from(answer == 0)),
+            lines: lines.wrapping_add(1),
+        };
     }
-}
 
-// A last line without a newline is a line if it has any byte.
-fn end_input(line: &[u8], table: &mut [u8], out: &mut [u8], progress: Progress) -> Progress
-    requires { (progress.kept ≤ length line.now) × (progress.used + result_room ≤ length out.old) }
-    ensures result_after { memory table.new line.now out.new result
-        ≡ at_end (memory table.old line.now out.old progress) }
-    ensures used_bound { result.used ≤ progress.used + result_room }
-{
-    if progress.kept == 0 {
-        return progress;
+    // A last line without a newline is a line if it has any byte.
+    fn end_input(&mut self)
+        requires { self.old.progress.used + result_room ≤ length self.old.out.now }
+        ensures result_after { memory_of self.new ≡ at_end (memory_of self.old) }
+        ensures used_bound { self.new.progress.used ≤ self.old.progress.used + result_room }
+        ensures same_room { length self.new.out.now ≡ length self.old.out.now }
+    {
+        if self.progress.kept != 0 {
+            let mut packet = [0u8; 2048];
+            self.end_line(&mut packet);
+        }
     }
-    let mut packet = [0u8; 2048];
-    end_line(line, &mut packet, table, out, progress)
 }

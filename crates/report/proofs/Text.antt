@@ -5,7 +5,8 @@ use mathlib.Core.Logic.{⊎_elim}
 use mathlib.Core.List.{List, [], ◌∷◌, ◌++◌, map, append_assoc}
 use native.Mathlib.Omega.{arith}
 use native.Mathlib.Nat.{pow-suc, div-lt_iff_lt-mul}
-use lib.ListN.{length, get_or, set, length-append, get_or-map, get_or-append}
+use Rattle.std.proofs.Common.{Option}
+use lib.ListN.{length, get_or, length-append, get_or-map, get_or-append}
 use lib.Seq.{get_or_at}
 use Rattle.choice.specs.Choice.{◌<ᵇ◌}
 use Rattle.choice.proofs.Choice.{when-cases, when-<, when-<-not}
@@ -14,10 +15,8 @@ use Rattle.octets.specs.Digits.{number, digits}
 use Rattle.octets.specs.Overwrite.{overwrite}
 use Rattle.octets.proofs.Digits.{number-cong, number_digits}
 use Rattle.octets.proofs.Overwrite.{overwrite-join}
-use Rattle.octets.proofs.Text.{length-map-digits, map-digits-suc, overwrite-map-digits}
+use Rattle.octets.proofs.Text.{length-map-digits, map-digits-suc}
 use Rattle.report.specs.Text.{count_up_to, digit_count, decimal_digits, decimal_text, shown_text, result_text, total_text}
-use Rattle.report.specs.declared.Shown.{Shown}
-use Rattle.report.specs.declared.Shown.TheVariants.{Number, Dash}
 
 -- How many digits
 
@@ -87,13 +86,6 @@ pub decimal_digits-suc : (n v : ℕ) → decimal_digits (suc n) v ≡ decimal_di
 unfolding decimal_digits
 decimal_digits-suc = map-digits-suc (λ d. 48 + d) 10
 
--- the last digit, stored first, leaves the digits before it to be written
-pub overwrite-decimal_digits :
-    (l : List ℕ) (at i v : ℕ) → 0 < i → at + i ≤ length l →
-    overwrite (set l (at + (i - 1)) (48 + v % 10)) at (decimal_digits (i - 1) (v / 10)) ≡ overwrite l at (decimal_digits i v)
-unfolding decimal_digits
-overwrite-decimal_digits = overwrite-map-digits (λ d. 48 + d) 10
-
 pub length-decimal_text : (v : ℕ) → length (decimal_text v) ≡ digit_count v
 unfolding decimal_text
 length-decimal_text v = length-decimal_digits (digit_count v) v
@@ -104,14 +96,6 @@ length-decimal_text≤20 v = rw (length-decimal_text v) (digit_count≤20 v)
 pub length-decimal_text≤ : (n v : ℕ) → v < 10 ^ suc n → length (decimal_text v) ≤ suc n
 unfolding digit_count
 length-decimal_text≤ n v below = rw (length-decimal_text v) (count_up_to≤ n 19 v below)
-
-pub shown_text-number : (s : Shown) (n : ℕ) → s ≡ Number n → shown_text s ≡ decimal_text n
-unfolding shown_text
-shown_text-number s n e = rw e
-
-pub shown_text-dash : (s : Shown) → s ≡ Dash → shown_text s ≡ 45 ∷ []
-unfolding shown_text
-shown_text-dash s e = rw e
 
 -- the number that the characters stand for is the one that was written
 pub number-decimal_text : (v : ℕ) → v < 10 ^ 20 → number 10 (λ i. get_or (decimal_text v) i 48 - 48) (length (decimal_text v)) ≡ v
@@ -192,7 +176,7 @@ append-5 p q r s t = simp append_assoc
 
 -- the room that a line takes
 pub length-result_text :
-    (answer : ℕ) (shown : Shown) →
+    (answer : ℕ) (shown : Option ℕ) →
     length (result_text answer shown) ≡ length (decimal_text answer) + length (shown_text shown) + 2
 unfolding result_text
 length-result_text answer shown = simp length-append (omega arith)

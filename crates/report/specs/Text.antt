@@ -1,9 +1,7 @@
 -- What the trace program prints (document 01, "Trace lines").
-use Rattle.std.specs.Prelude.{ℕ, zero, suc, ◌+◌, ◌/◌, List, [], ◌∷◌, ◌++◌, map}
+use Rattle.std.specs.Prelude.{ℕ, zero, suc, ◌+◌, ◌/◌, List, [], ◌∷◌, ◌++◌, map, Option, Some, None}
 use Rattle.choice.specs.Choice.{when◌then◌else◌, ◌<ᵇ◌, ◌=ᵇ◌}
 use Rattle.octets.specs.Digits.{digits}
-use Rattle.report.specs.declared.Shown.{Shown}
-use Rattle.report.specs.declared.Shown.TheVariants.{Number, Dash}
 
 -- how many decimal digits a number has, of those that have at most k + 1
 unfoldable pub count_up_to : ℕ → ℕ → ℕ
@@ -22,17 +20,17 @@ decimal_digits n v = map (λ d. 48 + d) (digits 10 n v)
 unfoldable pub decimal_text : ℕ → List ℕ
 decimal_text v = decimal_digits (digit_count v) v
 
--- what stands after the answer: a number, or "-"
-unfoldable pub shown_text : Shown → List ℕ
-shown_text (Number n) = decimal_text n
-shown_text Dash = 45 ∷ []
+-- what stands after the answer: a place or an offset, or "-" where there is none
+unfoldable pub shown_text : Option ℕ → List ℕ
+shown_text (Some n) = decimal_text n
+shown_text None = 45 ∷ []
 
 -- a place or an offset in a packet; 65,535 is neither
-unfoldable pub shown_place : ℕ → Shown
-shown_place place = when place =ᵇ 65535 then Dash else Number place
+unfoldable pub shown_place : ℕ → Option ℕ
+shown_place place = when place =ᵇ 65535 then None else Some place
 
 -- the line of an answer: the answer, a space, what is shown, a newline
-unfoldable pub result_text : ℕ → Shown → List ℕ
+unfoldable pub result_text : ℕ → Option ℕ → List ℕ
 result_text answer shown = decimal_text answer ++ ((32 ∷ []) ++ (shown_text shown ++ (10 ∷ [])))
 
 -- "passed "

@@ -5,77 +5,57 @@ ghost use Rattle.std.specs.Prelude.{◌≡◌, ◌+◌, ◌≤◌, length};
 ghost use Rattle.octets.specs.Overwrite.{overwrite};
 ghost use Rattle.report.specs.Text.{digit_count, decimal_digits, decimal_text, shown_text, shown_place, result_text, total_text};
 
-// What a result's line shows after the answer.
-#[derive(Clone, Copy)]
-pub enum Shown {
-    // A place, or the offset in a refused packet or a malformed line.
-    Number(usize),
-    // No place.
-    Dash,
-}
+use octets::write_digits;
 
-// How many decimal digits a number has.
+// How many decimal digits a number has. Counted here, as the library has no logarithm of integers.
 fn digit_count(value: u64) -> usize
     ensures { (result ≡ digit_count value) × (result ≤ 20) }
 {
     let mut left = value;
     let mut n = 1;
     while 9 < left {
-        left = left / 10;
+        left /= 10;
         n += 1;
     }
     n
 }
 
-// Writes the last n decimal digits of a number from at on, the last one first.
-fn write_digits(out: &mut [u8], at: usize, n: usize, value: u64)
-    requires { at + n ≤ length out.old }
-    ensures { out.new ≡ overwrite out.old at (decimal_digits n value) }
-{
-    let mut left = value;
-    let mut i = n;
-    while 0 < i {
-        i -= 1;
-        out[at + i] = 48 + ((left % 10) as u8);
-        left = left / 10;
-    }
-}
-
-// Writes a number from at on, and gives where it ends.
+// Writes a number from at on, and gives where it ends. Here and below `out` has its place beside it, and nothing goes through Display: a
+// clause says the final content of every byte of `out`.
 pub fn put_decimal(out: &mut [u8], at: usize, value: u64) -> usize
     requires { at + length (decimal_text value) ≤ length out.old }
     ensures { (result ≡ at + length (decimal_text value)) × (out.new ≡ overwrite out.old at (decimal_text value)) }
 {
-    let n = digit_count(value);
-    write_digits(out, at, n, value);
-    at + n
+    let end = at + digit_count(value);
+    write_digits::<10, _>(&mut out[at..end], value, |d| b'0' + d);
+    end
 }
 
 // Writes a text from at on, and gives where it ends.
+#[tactic(auto, unfolding(octets::specs::Overwrite::overwrite))]
 pub fn put_text(out: &mut [u8], at: usize, text: &[u8]) -> usize
     requires { at + length text.now ≤ length out.old }
     ensures { (result ≡ at + length text.now) × (out.new ≡ overwrite out.old at text.now) }
 {
-    let mut i = 0;
-    while i < text.len() {
-        out[at + i] = text[i];
-        i += 1;
-    }
-    at + i
+    let end = at + text.len();
+    out[at..end].copy_from_slice(text);
+    end
 }
 
-fn put_shown(out: &mut [u8], at: usize, shown: Shown) -> usize
+// Writes what a result's line shows after the answer, and gives where it ends.
+#[tactic(auto, unfolding(crate::specs::Text::shown_text))]
+fn put_shown(out: &mut [u8], at: usize, shown: Option<usize>) -> usize
     requires { at + length (shown_text shown) ≤ length out.old }
     ensures { (result ≡ at + length (shown_text shown)) × (out.new ≡ overwrite out.old at (shown_text shown)) }
 {
     match shown {
-        Shown::Number(n) => put_decimal(out, at, n as u64),
-        Shown::Dash => put_text(out, at, b"-"),
+        Some(n) => put_decimal(out, at, n as u64),
+        None => put_text(out, at, b"-"),
     }
 }
 
-// Writes the line of an answer from at on, and gives where it ends.
-pub fn put_result(out: &mut [u8], at: usize, answer: u32, shown: Shown) -> usize
+// Writes the line of an answer from at on, and gives where it ends. Answer and what is shown are given apart, as `result_text` takes them.
+pub fn put_result(out: &mut [u8], at: usize, answer: u32, shown: Option<usize>) -> usize
     requires { at + length (result_text answer shown) ≤ length out.old }
     ensures { (result ≡ at + length (result_text answer shown)) × (out.new ≡ overwrite out.old at (result_text answer shown)) }
 {
@@ -87,13 +67,10 @@ pub fn put_result(out: &mut [u8], at: usize, answer: u32, shown: Shown) -> usize
 
 // A place as it is shown.
 #[tactic(auto, using(choice::proofs::Choice::when_cond), unfolding(crate::specs::Text::shown_place))]
-pub fn shown_place(place: usize) -> Shown
+pub fn shown_place(place: usize) -> Option<usize>
     ensures { result ≡ shown_place place }
 {
-    if place == 65535 {
-        return Shown::Dash;
-    }
-    Shown::Number(place)
+    if place == 65535 { None } else { Some(place) }
 }
 
 // Writes the last line from at on, and gives where it ends.

@@ -5,9 +5,9 @@ use mathlib.Core.Bool.{true, false}
 use mathlib.Core.Logic.{◌⊎◌, inl, inr, ⊎_elim}
 use mathlib.Core.List.{List, [], ◌∷◌, ◌++◌, map, map-append, append_assoc, append-nil}
 use native.Mathlib.Omega.{arith}
-use native.Mathlib.Nat.{pow-le-pow_right}
+use native.Mathlib.Nat.{pow-le-pow_right, zero-add}
 use native.Mathlib.Numerals.{add-one}
-use lib.ListN.{length, get_or, take, drop, length-append, take-append-drop, get_or-map}
+use lib.ListN.{length, get_or, take, drop, length-append, length-take, length-drop, take-append-drop, get_or-map}
 use lib.Seq.{get_or-take, get_or-drop, drop-cons, drop_at, length-take-le, take-add}
 use borrow.Author.Tests.{lt-ltb, le-ltb}
 use Rattle.choice.specs.Choice.{when◌then◌else◌}
@@ -141,6 +141,15 @@ hex_number<2^48 l at n h =
 pub hex_number-suc : (l : List ℕ) (at n : ℕ) → hex_number l at (n + 1) ≡ hex_number l at n * 16 + hex_value (get_or l (at + n) 0)
 unfolding hex_number number
 hex_number-suc l at n = rw add-one
+
+-- the number that stands in a part
+pub hex_number-part : (l : List ℕ) (at n : ℕ) → at + n ≤ length l → hex_number (take n (drop at l)) 0 (length (take n (drop at l))) ≡ hex_number l at n
+unfolding hex_number
+hex_number-part l at n fits =
+    let size : length (take n (drop at l)) ≡ n = simp (length-take, length-drop) (omega arith) in
+    rw size
+    (number-cong 16 (λ i. hex_value (get_or (take n (drop at l)) (0 + i) 0)) (λ i. hex_value (get_or l (at + i) 0)) n
+    (λ i h. rw (zero-add, get_or-take n (drop at l) i 0 h, get_or-drop at l i 0)))
 
 -- and the digits of a number that was read are those that stand there
 pub hex_digits-hex_number :

@@ -6,13 +6,14 @@ use mathlib.Core.Logic.{⊎_elim}
 use mathlib.Core.List.{List, ◌++◌}
 use native.Mathlib.Omega.{arith}
 use native.Mathlib.Nat.{zero-add}
+use Rattle.std.proofs.Common.{Err}
 use lib.ListN.{length, get_or, take, drop, length-append, length-take, length-drop, replicate, length-replicate, get_or-replicate}
 use lib.Seq.{length-take-le, get_or-take, get_or-drop, take-append_seam}
 use Rattle.choice.proofs.Tests.{true-or-false, lt-or-ge, false-true}
 use Rattle.trace.specs.Line.{may_stand, LegalLine, packet_length, line_of}
 use Rattle.trace.specs.Read.{first_illegal, well_formed, read_line}
 use Rattle.trace.specs.Offset.{PossibleBefore, ImpossibleAt, RefusedBy22}
-use Rattle.trace.specs.declared.LineRead.TheVariants.{Malformed}
+use Rattle.trace.specs.declared.ReadLineError.TheVariants.{Malformed}
 use Rattle.trace.proofs.Each.{Each, each_append, each-get_or}
 use Rattle.trace.proofs.Line.{Stand, line_of-legal}
 use Rattle.trace.proofs.Read.{first_illegal≤length, first_illegal-before, first_illegal-here, legal-well_formed, well_formed-legal, read_line-malformed, read_line-no-room, read_line-frame}
@@ -49,7 +50,7 @@ begun-legal l m n k legal inside fits stand =
           (λ i h. let g : i < k = omega arith in rw (zero-add, get_or-take k l i 0 g) (stand i g)) back i h);
     }
 
-legal-not-malformed : (l : List ℕ) (n room offset : ℕ) → LegalLine l n → read_line l room ≡ Malformed offset → ⊥
+legal-not-malformed : (l : List ℕ) (n room offset : ℕ) → LegalLine l n → read_line l room ≡ Err (Malformed offset) → ⊥
 legal-not-malformed l n room offset legal refused =
     let well = legal-well_formed l n legal in
     ⊎_elim

@@ -1,44 +1,46 @@
 -- Laws of reading: the first illegal byte, well-formed lines, and each answer of `read_line`.
 use Prim.Native.Nat.{ℕ, zero, suc, ◌+◌, ◌-◌, ◌%◌, ◌≤◌, ◌<◌, min}
-use mathlib.Core.Path.{◌≡◌, refl, sym, ◌∙◌}
+use mathlib.Core.Path.{◌≡◌, refl, sym, ap, ◌∙◌}
 use mathlib.Core.Bool.{Bool, true, false, ◌&&◌, and-false}
 use mathlib.Core.Logic.{⊎_elim}
-use mathlib.Core.List.{List}
+use mathlib.Core.List.{List, [], ◌∷◌}
 use native.Mathlib.Omega.{arith}
-use lib.ListN.{length, get_or}
+use native.Mathlib.Nat.{zero-add}
+use lib.ListN.{length, get_or, take, drop, length-drop}
+use lib.Seq.{length-take-le, get_or-take, get_or-drop, drop-cons}
+use Rattle.std.proofs.Common.{Ok, Err, Option, Some, None, cond, not, max, fold, position, nat_lt, ltb-false, drop_of_length-le}
+use Rattle.std.specs.Option.{unwrap_or}
+use Rattle.std.specs.List.{position_or_len, enumerate_from}
+use Rattle.std.proofs.lemmas.List.Sums.{prefix_len-le-length}
+use Rattle.std.proofs.lemmas.List.FromFn.{length-enumerate_from}
+use Rattle.std.proofs.lemmas.Bool.Decides.{nat_tests}
 use borrow.Author.Tests.{lt-ltb, le-ltb, le-leb, lt-leb, leb-true, eq-eqb, ne_eqb, eqb-true}
 use Rattle.choice.specs.Choice.{when◌then◌else◌, ◌≤ᵇ◌, ◌=ᵇ◌}
 use Rattle.choice.proofs.Choice.{when-true, when-false}
 use Rattle.choice.proofs.Tests.{lt-or-ge, false-true, &&-true}
 use Rattle.trace.specs.Hex.{is_hex}
 use Rattle.trace.specs.Line.{may_stand, LegalLine, line_side, line_clock, packet_length}
-use Rattle.trace.specs.Read.{illegal_from, first_illegal, HexFrom, well_formed, read_line}
-use Rattle.trace.specs.declared.LineRead.TheVariants.{TooLong, Malformed, NoRoom, Frame}
+use Rattle.trace.specs.Read.{illegal_from, first_illegal, HexFrom, well_formed, frame, read_line}
+use Rattle.trace.specs.declared.ReadLineError.TheVariants.{TooLong, Malformed, NoRoom}
 use Rattle.trace.proofs.Line.{packet_length-legal}
-
--- The first illegal byte, with n - i bytes left
-
-pub illegal_from-legal :
-    (l : List ℕ) (i n : ℕ) → i < n → may_stand i (get_or l i 0) ≡ true →
-    illegal_from l i (n - i) ≡ illegal_from l (i + 1) (n - (i + 1))
-unfolding illegal_from
-illegal_from-legal l i n h e =
-    let k : n - i ≡ suc (n - (i + 1)) = omega arith in rw k (when-true _ _ _ e)
-
-pub illegal_from-illegal : (l : List ℕ) (i n : ℕ) → i < n → may_stand i (get_or l i 0) ≡ false → illegal_from l i (n - i) ≡ i
-unfolding illegal_from
-illegal_from-illegal l i n h e =
-    let k : n - i ≡ suc (n - (i + 1)) = omega arith in rw k (when-false _ _ _ e)
-
-pub illegal_from-end : (l : List ℕ) (i n : ℕ) → n ≤ i → illegal_from l i (n - i) ≡ i
-unfolding illegal_from
-illegal_from-end l i n h = let k : n - i ≡ 0 = omega arith in rw k
 
 -- Hex digits from a position on
 
-pub hex-further : (l : List ℕ) (i end : ℕ) → HexFrom l i end → is_hex (get_or l end 0) ≡ true → HexFrom l i (end + 1)
-hex-further l i end all next k low high =
-    ⊎_elim (λ (h : k < end). all k low h) (λ (h : end ≤ k). let e : k ≡ end = omega arith in rw e next) (lt-or-ge k end)
+-- no byte is worse than a hex digit
+pub hex-worst :
+    (l : List ℕ) (w : ℕ) → fold (λ v b. max v (cond (is_hex b) 0 1)) w l ≡ 0 → (w ≡ 0) × HexFrom l 0 (length l)
+hex-worst [] w e = (e, λ k low high. absurd (omega arith))
+hex-worst (b ∷ l) w e =
+    let rest = hex-worst l (max w (cond (is_hex b) 0 1)) e in (
+      omega (arith, rest.0),
+      λ k low high. hex-head b l w rest.0 rest.1 k high,
+    )
+  where
+    hex-head :
+        (b : ℕ) (l : List ℕ) (w : ℕ) → max w (cond (is_hex b) 0 1) ≡ 0 → HexFrom l 0 (length l) → (k : ℕ) → k < length (b ∷ l) →
+        is_hex (get_or (b ∷ l) k 0) ≡ true
+    hex-head b l w e all zero h = grind (arith, nat_tests)
+    hex-head b l w e all (suc k) h = all k (omega arith) (omega arith)
 
 past-14 : (k b : ℕ) → 15 ≤ k → is_hex b ≡ true → may_stand k b ≡ true
 unfolding may_stand
@@ -91,28 +93,64 @@ module _ (l : List ℕ) where
   pub first_illegal-here : first_illegal l < length l → may_stand (first_illegal l) (get_or l (first_illegal l) 0) ≡ false
   first_illegal-here = first_illegal-first.here
 
-  -- an illegal byte in a part from the front is the line's first
-  pub illegal-in-part : (end : ℕ) → end ≤ length l → illegal_from l 0 end < end → illegal_from l 0 end ≡ first_illegal l
-  illegal-in-part end short found =
-      let f = illegal_from-first l 0 end end (omega arith) in
-      let r = illegal_from l 0 end in
-      ⊎_elim (λ (h : r < first_illegal l). false-true (sym (f.here found) ∙ first_illegal-before r h))
-      (λ (h : first_illegal l ≤ r).
-      ⊎_elim (λ (g : first_illegal l < r). false-true (sym (first_illegal-here (omega (arith, g, found))) ∙ f.before (first_illegal l) (omega arith) g))
-      (λ (g : r ≤ first_illegal l). omega (arith, g, h)) (lt-or-ge (first_illegal l) r)) (lt-or-ge r (first_illegal l))
-
   first_illegal≡length : ((i : ℕ) → i < length l → may_stand i (get_or l i 0) ≡ true) → first_illegal l ≡ length l
   first_illegal≡length each =
       ⊎_elim (λ (h : first_illegal l < length l). false-true (sym (first_illegal-here h) ∙ each (first_illegal l) h))
       (λ (h : length l ≤ first_illegal l). omega (arith, first_illegal≤length)) (lt-or-ge (first_illegal l) (length l))
 
-  -- the head is legal, and the rest are hex digits
-  pub all-legal : (n : ℕ) → n ≡ min (length l) 15 → n ≤ illegal_from l 0 n → HexFrom l 15 (length l) → first_illegal l ≡ length l
-  all-legal n is head rest =
-      let f = illegal_from-first l 0 n n (omega arith) in
-      first_illegal≡length (λ i h.
-      ⊎_elim (λ (g : i < n). f.before i (omega arith) (omega (arith, g, head)))
-      (λ (g : n ≤ i). past-14 i _ (omega (arith, is, g, h)) (rest i (omega (arith, is, g, h)) h)) (lt-or-ge i n))
+-- The first illegal byte by the library's search
+
+-- a byte that may not stand where it stands
+abbrev pub may_not_stand : ℕ × ℕ → Bool
+may_not_stand p = not (may_stand p.0 p.1)
+
+abbrev pub illegal_position : List ℕ → Option ℕ
+illegal_position l = position may_not_stand (enumerate_from 0 l)
+
+position_or_len-illegal :
+    (l rest : List ℕ) (i k : ℕ) → rest ≡ drop i l → i + k ≡ length l →
+    i + position_or_len may_not_stand (enumerate_from i rest) ≡ illegal_from l i k
+unfolding illegal_from when◌then◌else◌
+position_or_len-illegal l rest i zero is e =
+    let past : length l ≤ i = omega arith in rw (is, drop_of_length-le l past) (omega arith)
+position_or_len-illegal l rest i (suc k) is e =
+    let one : suc i ≡ i + 1 = omega arith in
+    let next : drop (suc i) l ≡ drop (i + 1) l = ap (λ (j : ℕ). drop j l) one in
+    rw (is, drop-cons l i 0 (omega arith)) (go (may_stand i (get_or l i 0)) (position_or_len-illegal l (drop (suc i) l) (i + 1) k next (omega arith)))
+  where
+    go :
+        (t : Bool) → i + 1 + position_or_len may_not_stand (enumerate_from (i + 1) (drop (suc i) l)) ≡ illegal_from l (i + 1) k →
+        i + cond (not (not t)) (1 + position_or_len may_not_stand (enumerate_from (i + 1) (drop (suc i) l))) 0 ≡ (when t then illegal_from l (i + 1) k else i)
+    go true e = omega (arith, e)
+    go false e = omega arith
+
+position-or-length : {X : Type 0} (p : X → Bool) (xs : List X) → unwrap_or (position p xs) (length xs) ≡ position_or_len p xs
+position-or-length p xs = go (nat_lt (position_or_len p xs) (length xs)) refl
+  where
+    go : (t : Bool) → nat_lt (position_or_len p xs) (length xs) ≡ t → unwrap_or (cond t (Some (position_or_len p xs)) None) (length xs) ≡ position_or_len p xs
+    go true e = refl
+    go false e = omega (arith, ltb-false (position_or_len p xs) (length xs) e, prefix_len-le-length (λ x. not (p x)) xs)
+
+pub illegal_position-or-length : (l : List ℕ) → unwrap_or (illegal_position l) (length l) ≡ first_illegal l
+unfolding first_illegal
+illegal_position-or-length l =
+    ap (unwrap_or (illegal_position l)) (sym (length-enumerate_from {X = ℕ} 0 l)) ∙ position-or-length may_not_stand (enumerate_from 0 l)
+    ∙ rw zero-add at (position_or_len-illegal l l 0 (length l) refl (omega arith))
+
+-- every byte of the head may stand where it stands, and the rest are hex digits
+pub all-legal :
+    (l : List ℕ) (n : ℕ) → n ≡ min (length l) 15 → illegal_position (take n l) ≡ None → HexFrom (drop n l) 0 (length (drop n l)) →
+    first_illegal l ≡ length l
+all-legal l n is head rest =
+    let size : length (take n l) ≡ n = length-take-le n l (omega arith) in
+    let none : n ≡ first_illegal (take n l) = sym size ∙ rw head at (illegal_position-or-length (take n l)) in
+    first_illegal≡length l (λ i h.
+    ⊎_elim
+    (λ (g : i < n). rw (get_or-take n l i 0 g) at (first_illegal-before (take n l) i (omega arith)))
+    (λ (g : n ≤ i).
+    let there : n + (i - n) ≡ i = omega arith in
+    past-14 i _ (omega arith) (rw (get_or-drop n l (i - n) 0, there) at (rest (i - n) (omega arith) (rw (length-drop n l) (omega arith)))))
+    (lt-or-ge i n))
 
 -- Well-formed lines
 
@@ -154,27 +192,27 @@ well_formed-legal l short e =
 -- Each answer
 
 module _ (l : List ℕ) (room : ℕ) where
-  pub read_line-too-long : 4111 < length l → read_line l room ≡ TooLong
+  pub read_line-too-long : 4111 < length l → read_line l room ≡ Err TooLong
   unfolding read_line
   read_line-too-long h = when-true _ _ _ (lt-ltb 4111 (length l) h)
 
-  pub read_line-malformed : length l ≤ 4111 → well_formed l ≡ false → read_line l room ≡ Malformed (first_illegal l)
+  pub read_line-malformed : length l ≤ 4111 → well_formed l ≡ false → read_line l room ≡ Err (Malformed (first_illegal l))
   unfolding read_line
   read_line-malformed h e = when-false _ _ _ (le-ltb 4111 (length l) h) ∙ when-true _ _ _ (rw e)
 
-  pub read_line-no-room : length l ≤ 4111 → well_formed l ≡ true → room < packet_length l → read_line l room ≡ NoRoom
+  pub read_line-no-room : length l ≤ 4111 → well_formed l ≡ true → room < packet_length l → read_line l room ≡ Err NoRoom
   unfolding read_line
   read_line-no-room h e less =
       when-false _ _ _ (le-ltb 4111 (length l) h) ∙ when-false _ _ _ (rw e) ∙ when-true _ _ _ (lt-ltb room (packet_length l) less)
 
   pub read_line-frame :
       length l ≤ 4111 → well_formed l ≡ true → packet_length l ≤ room →
-      read_line l room ≡ Frame (line_side l) (line_clock l) (packet_length l)
+      read_line l room ≡ Ok (frame (line_side l) (line_clock l) (packet_length l))
   unfolding read_line
   read_line-frame h e fits =
       when-false _ _ _ (le-ltb 4111 (length l) h) ∙ when-false _ _ _ (rw e) ∙ when-false _ _ _ (le-ltb room (packet_length l) fits)
 
-pub read_line-legal : (l : List ℕ) (n room : ℕ) → LegalLine l n → n ≤ room → read_line l room ≡ Frame (line_side l) (line_clock l) n
+pub read_line-legal : (l : List ℕ) (n room : ℕ) → LegalLine l n → n ≤ room → read_line l room ≡ Ok (frame (line_side l) (line_clock l) n)
 read_line-legal l n room legal fits =
     rw (packet_length-legal l n legal) at
     (read_line-frame l room (omega arith) (legal-well_formed l n legal) (rw (packet_length-legal l n legal) fits))

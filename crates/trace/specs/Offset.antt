@@ -1,8 +1,8 @@
 -- What the offset of refusal 22 speaks of (document 01, "Trace lines"): the bytes that some legal line begins with.
-use Rattle.std.specs.Prelude.{ℕ, ◌+◌, ◌≤◌, ◌<◌, ◌≡◌, ◌↔◌, List, length, take}
+use Rattle.std.specs.Prelude.{ℕ, ◌+◌, ◌≤◌, ◌<◌, ◌≡◌, ◌↔◌, List, length, take, Err}
 use Rattle.trace.specs.Line.{LegalLine}
 use Rattle.trace.specs.Read.{first_illegal, read_line}
-use Rattle.trace.specs.declared.LineRead.TheVariants.{Malformed}
+use Rattle.trace.specs.declared.ReadLineError.TheVariants.{Malformed}
 
 -- a legal line begins with p
 pub record Begins (p : List ℕ) : Type 0 where
@@ -21,4 +21,4 @@ ImpossibleAt = (l : List ℕ) → first_illegal l < length l → Begins (take (f
 
 -- a line that is not too long is refused by 22, with this offset, where it is not legal and only there
 abbrev pub RefusedBy22 : Type 0
-RefusedBy22 = (l : List ℕ) (room : ℕ) → length l ≤ 4111 → ((n : ℕ) → LegalLine l n → ⊥) ↔ (read_line l room ≡ Malformed (first_illegal l))
+RefusedBy22 = (l : List ℕ) (room : ℕ) → length l ≤ 4111 → ((n : ℕ) → LegalLine l n → ⊥) ↔ (read_line l room ≡ Err (Malformed (first_illegal l)))

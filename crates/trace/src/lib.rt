@@ -1,31 +1,38 @@
 // Trace lines: document 01, "Trace lines". One line holds one packet with its side and clock.
 #![tactic(auto)]
 
-ghost use Rattle.std.specs.Prelude.{◌≡◌, true, ◌+◌, ◌*◌, ◌^◌, ◌≤◌, ◌<◌, max, length};
-ghost use Rattle.octets.specs.Overwrite.{overwrite};
+ghost use Rattle.std.specs.Prelude.{◌≡◌, ℕ, true, cond, not, ◌+◌, ◌*◌, ◌^◌, ◌≤◌, ◌<◌, length, position};
+ghost use Rattle.std.specs.List.{enumerate_from};
 ghost use Rattle.trace.specs.Hex.{is_hex, hex_value, hex_digit, hex_number, hex_digits, hex_pairs};
-ghost use Rattle.trace.specs.Line.{may_stand, packet_length, line_packet, line_of};
+ghost use Rattle.trace.specs.Line.{may_stand, line_packet, line_of};
 ghost use Rattle.trace.specs.Read.{illegal_from, first_illegal, HexFrom, read_line, packet_after_reading, read_answer, reading};
 ghost use Rattle.trace.specs.Write.{write_line, line_after_writing, write_answer, writing};
 
-use octets::least;
+use octets::write_digits;
 
-// What reading a line finds.
-#[derive(Clone, Copy)]
-pub enum LineRead {
+// What a legal line says of its packet.
+#[derive(Clone, Copy, Debug, PartialEq, Eq)]
+pub struct Frame {
+    pub side: u8,
+    pub clock: u64,
+    // How many bytes of the output are the packet's.
+    pub length: usize,
+}
+
+// Why a line is not read.
+#[derive(Clone, Copy, Debug, PartialEq, Eq)]
+pub enum ReadLineError {
     // 21: over 4,111 characters.
     TooLong,
     // 22: the offset of the first byte that no legal line has there, or the length of a line that stops early.
     Malformed(usize),
     // 23: the packet does not fit the output.
     NoRoom,
-    // 0: the packet's bytes are in the output.
-    Frame { side: u8, clock: u64, length: usize },
 }
 
-// What writing a line gives.
-#[derive(Clone, Copy)]
-pub enum LineWrite {
+// Why a line is not written.
+#[derive(Clone, Copy, Debug, PartialEq, Eq)]
+pub enum WriteLineError {
     // 1: a side that is not 0 or 1.
     UnknownSide,
     // 2: a clock of 2^48 ms or more.
@@ -34,12 +41,10 @@ pub enum LineWrite {
     PacketLength,
     // 23: the line does not fit the output.
     NoRoom,
-    // 0: so many characters are in the output.
-    Written(usize),
 }
 
-// The reader's answer in document 01's numbers.
-#[derive(Clone, Copy)]
+// The reader's answer in document 01's numbers, as C and the tests have it.
+#[derive(Clone, Copy, Debug, Default, PartialEq, Eq)]
 pub struct ReadAnswer {
     pub number: u32,
     pub side: u8,
@@ -48,88 +53,68 @@ pub struct ReadAnswer {
     pub offset: usize,
 }
 
-// The writer's answer in document 01's numbers.
-#[derive(Clone, Copy)]
+// The writer's answer in document 01's numbers, as C and the tests have it.
+#[derive(Clone, Copy, Debug, Default, PartialEq, Eq)]
 pub struct WriteAnswer {
     pub number: u32,
     pub length: usize,
 }
 
-impl LineRead {
-    pub fn answer(self) -> ReadAnswer
-        ensures { result ≡ read_answer self }
-    {
-        match self {
-            LineRead::TooLong => refused(21, 0),
-            LineRead::Malformed(offset) => refused(22, offset),
-            LineRead::NoRoom => refused(23, 0),
-            LineRead::Frame {
-                side,
-                clock,
-                length,
-            } => ReadAnswer {
-                number: 0,
-                side: side,
-                clock: clock,
-                length: length,
-                offset: 0,
-            },
-        }
-    }
-}
+impl From<Result<Frame, ReadLineError>> for ReadAnswer {
+    ghost from_gives = { λ read answer. answer ≡ read_answer read };
 
-fn refused(number: u32, offset: usize) -> ReadAnswer
-    ensures { result ≡ record { number = number; side = 0; clock = 0; length = 0; offset = offset } }
-{
-    ReadAnswer {
-        number: number,
-        side: 0,
-        clock: 0,
-        length: 0,
-        offset: offset,
-    }
-}
-
-impl LineWrite {
-    pub fn answer(self) -> WriteAnswer
-        ensures { result ≡ write_answer self }
-    {
-        match self {
-            LineWrite::UnknownSide => WriteAnswer {
-                number: 1,
-                length: 0,
+    #[tactic(auto, unfolding(crate::specs::Read::read_answer))]
+    fn from(read: Result<Frame, ReadLineError>) -> ReadAnswer {
+        match read {
+            Ok(frame) => ReadAnswer {
+                side: frame.side,
+                clock: frame.clock,
+                length: frame.length,
+                ..ReadAnswer::default()
             },
-            LineWrite::ClockTooLarge => WriteAnswer {
-                number: 2,
-                length: 0,
+            Err(ReadLineError::TooLong) => ReadAnswer {
+                number: 21,
+                ..ReadAnswer::default()
             },
-            LineWrite::PacketLength => WriteAnswer {
-                number: 24,
-                length: 0,
+            Err(ReadLineError::Malformed(offset)) => ReadAnswer {
+                number: 22,
+                offset,
+                ..ReadAnswer::default()
             },
-            LineWrite::NoRoom => WriteAnswer {
+            Err(ReadLineError::NoRoom) => ReadAnswer {
                 number: 23,
-                length: 0,
-            },
-            LineWrite::Written(length) => WriteAnswer {
-                number: 0,
-                length: length,
+                ..ReadAnswer::default()
             },
         }
     }
 }
 
+impl From<Result<usize, WriteLineError>> for WriteAnswer {
+    ghost from_gives = { λ written answer. answer ≡ write_answer written };
+
+    #[tactic(auto, unfolding(crate::specs::Write::write_answer))]
+    fn from(written: Result<usize, WriteLineError>) -> WriteAnswer {
+        let (number, length) = match written {
+            Ok(length) => (0, length),
+            Err(WriteLineError::UnknownSide) => (1, 0),
+            Err(WriteLineError::ClockTooLarge) => (2, 0),
+            Err(WriteLineError::PacketLength) => (24, 0),
+            Err(WriteLineError::NoRoom) => (23, 0),
+        };
+        WriteAnswer { number, length }
+    }
+}
+
+#[tactic(auto, unfolding(crate::specs::Hex::is_decimal, crate::specs::Hex::is_letter, crate::specs::Hex::is_hex))]
 fn is_hex(b: u8) -> bool
     ensures { result ≡ is_hex b }
 {
-    match b {
-        b'0'..=b'9' => true,
-        b'a'..=b'f' => true,
-        _ => false,
-    }
+    matches!(b, b'0'..=b'9' | b'a'..=b'f')
 }
 
-fn hex_value(b: u8) -> u8
+// What a hex digit is worth; 0 for any other byte.
+#[tactic(auto, using(choice::proofs::Choice::when_cond), unfolding(crate::specs::Hex::is_decimal, crate::specs::Hex::is_letter, crate::specs::Hex::hex_value))]
+pub fn hex_value(b: u8) -> u8
     ensures { (result ≡ hex_value b) × (result < 16) }
 {
     match b {
@@ -139,7 +124,9 @@ fn hex_value(b: u8) -> u8
     }
 }
 
-fn hex_digit(d: u8) -> u8
+// The hex digit that is worth d.
+#[tactic(auto, using(choice::proofs::Choice::when_cond), unfolding(crate::specs::Hex::hex_digit))]
+pub fn hex_digit(d: u8) -> u8
     requires { d < 16 }
     ensures { result ≡ hex_digit d }
 {
@@ -147,6 +134,7 @@ fn hex_digit(d: u8) -> u8
 }
 
 // May byte b stand at position i of a line?
+#[tactic(auto, using(choice::proofs::Choice::when_cond), unfolding(crate::specs::Line::may_stand))]
 fn may_stand(i: usize, b: u8) -> bool
     ensures { result ≡ may_stand i b }
 {
@@ -157,185 +145,154 @@ fn may_stand(i: usize, b: u8) -> bool
     }
 }
 
-// The first position below end whose byte may not stand there, or end.
-fn illegal_before(line: &[u8], end: usize) -> usize
-    requires { end ≤ length line.now }
-    ensures { result ≡ illegal_from line.now 0 end }
+// The first position whose byte may not stand there.
+fn first_that_may_not_stand(line: &[u8]) -> Option<usize>
+    ensures { result ≡ position (λ (p : ℕ × ℕ). not (may_stand p.0 p.1)) (enumerate_from 0 line.now) }
 {
-    let mut i = 0;
-    while i < end {
-        if !may_stand(i, line[i]) {
-            return i;
-        }
-        i += 1;
-    }
-    i
+    line.iter().enumerate().position(|(i, b)| !may_stand(i, *b))
 }
 
-fn larger(a: u8, b: u8) -> u8
-    ensures { result ≡ max a b }
-{
-    if a < b { b } else { a }
-}
-
-// 0 only for a hex digit.
+// 0 for a hex digit, 1 for any other byte: a number of its own, as `u8::from(!is_hex(..))` in the fold is not taken many at a time, and
+// reading lines then takes 1.3 to 2.4 times as long.
 fn not_hex(b: u8) -> u8
-    ensures { result ≡ 0 → is_hex b ≡ true }
+    ensures { result ≡ cond (is_hex b) 0 1 }
 {
     if is_hex(b) { 0 } else { 1 }
 }
 
-// 0 only if every byte from position 15 on is a hex digit. It has no early return, so that many bytes are tested at a time.
-fn any_not_hex(line: &[u8]) -> u8
-    ensures { result ≡ 0 → HexFrom line.now 15 (length line.now) }
+// Not so only if a byte is no hex digit. It has no early return, so that many bytes are tested at a time.
+fn all_hex(bytes: &[u8]) -> bool
+    ensures { result ≡ true → HexFrom bytes.now 0 (length bytes.now) }
 {
-    let mut worst: u8 = 0;
-    let mut i = 15;
-    while i < line.len() {
-        worst = larger(worst, not_hex(line[i]));
-        i += 1;
-    }
-    worst
+    let worst = bytes.iter().fold(0, |worst: u8, b| worst.max(not_hex(*b)));
+    worst == 0
 }
 
-// An illegal byte is rare: all bytes are tested at once, and only if one is no digit is it looked for.
+// An illegal byte is rare: all bytes are tested at once, and only if one may not stand there is it looked for.
+// The length where all may, as the definition has it.
 fn first_illegal(line: &[u8]) -> usize
     ensures { result ≡ first_illegal line.now }
 {
     let len = line.len();
-    let head = least(len, 15);
-    let offset = illegal_before(line, head);
-    if offset < head {
-        return offset;
-    }
-    if any_not_hex(line) == 0 {
+    let head = len.min(15);
+    if first_that_may_not_stand(&line[..head]).is_none() && all_hex(&line[head..]) {
         return len;
     }
-    illegal_before(line, len)
+    first_that_may_not_stand(line).unwrap_or(len)
 }
 
-// The number that n hex digits from at on stand for.
-fn hex_number(line: &[u8], at: usize, n: usize) -> u64
-    requires { (at + n ≤ length line.now) × (n ≤ 12) }
-    ensures { (result ≡ hex_number line.now at n) × (result < 16 ^ n) }
+// The number that hex digits stand for. A `for`: that v stays small enough for the next digit is more than a fold's closure can say.
+fn hex_number(digits: &[u8]) -> u64
+    requires { length digits.now ≤ 12 }
+    ensures { (result ≡ hex_number digits.now 0 (length digits.now)) × (result < 16 ^ length digits.now) }
 {
     let mut v: u64 = 0;
-    let mut i = 0;
-    while i < n {
-        v = v * 16 + (hex_value(line[at + i]) as u64);
-        i += 1;
+    for b in digits {
+        v = v * 16 + u64::from(hex_value(*b));
     }
     v
 }
 
-// The n packet bytes of a line.
-fn read_packet(line: &[u8], n: usize, packet: &mut [u8])
-    requires { (15 + 2 * n ≤ length line.now) × (n ≡ packet_length line.now) × (n ≤ length packet.old) }
-    ensures { packet.new ≡ overwrite packet.old 0 (line_packet line.now) }
+// The packet bytes of a line. By index: of what `zip` lends of an `iter_mut` a proof knows nothing afterwards.
+fn read_packet(line: &[u8], packet: &mut [u8])
+    requires { length line.now ≡ 15 + 2 * length packet.old }
+    ensures { packet.new ≡ line_packet line.now }
 {
-    let mut i = 0;
-    while i < n {
-        packet[i] = hex_number(line, 15 + 2 * i, 2) as u8;
-        i += 1;
+    for (i, byte) in packet.iter_mut().enumerate() {
+        let at = 15 + 2 * i;
+        *byte = hex_number(&line[at..at + 2]) as u8;
     }
 }
 
 // Reads a line into packet. Document 01 leaves the offset free where the line is read: it is 0 here.
-#[tactic(auto, using(choice::proofs::Choice::when_cond), unfolding(crate::specs::Read::read_line, crate::specs::Read::packet_after))]
-pub fn read_line(line: &[u8], packet: &mut [u8]) -> LineRead
+#[tactic(auto, using(choice::proofs::Choice::when_cond), unfolding(octets::specs::Overwrite::overwrite, crate::specs::Line::line_side, crate::specs::Line::line_clock, crate::specs::Line::packet_length, crate::specs::Read::well_formed, crate::specs::Read::read_line, crate::specs::Read::packet_after))]
+pub fn read_line(line: &[u8], packet: &mut [u8]) -> Result<Frame, ReadLineError>
     ensures { (result ≡ read_line line.now (length packet.old))
         × (packet.new ≡ packet_after_reading line.now packet.old)
         × (read_answer result ≡ reading line.now packet.old) }
 {
     let len = line.len();
     if 4111 < len {
-        return LineRead::TooLong;
+        return Err(ReadLineError::TooLong);
     }
     let offset = first_illegal(line);
     if offset != len {
-        return LineRead::Malformed(offset);
+        return Err(ReadLineError::Malformed(offset));
     }
     // It stops before its first packet byte, or at an odd digit.
     if len < 17 || len % 2 != 1 {
-        return LineRead::Malformed(len);
+        return Err(ReadLineError::Malformed(len));
     }
     let n = (len - 15) / 2;
     if packet.len() < n {
-        return LineRead::NoRoom;
+        return Err(ReadLineError::NoRoom);
     }
     let side = line[0] - b'0';
-    let clock = hex_number(line, 2, 12);
-    read_packet(line, n, packet);
-    LineRead::Frame {
-        side: side,
-        clock: clock,
+    let clock = hex_number(&line[2..14]);
+    read_packet(line, &mut packet[..n]);
+    Ok(Frame {
+        side,
+        clock,
         length: n,
-    }
+    })
 }
 
-// Writes v in n hex digits from at on, the last one first.
-fn write_hex(line: &mut [u8], at: usize, n: usize, v: u64)
-    requires { at + n ≤ length line.old }
-    ensures { line.new ≡ overwrite line.old at (hex_digits n v) }
+// Fills a text with the last hex digits of v.
+fn write_hex(text: &mut [u8], v: u64)
+    ensures { text.new ≡ hex_digits (length text.old) v }
 {
-    let mut left = v;
-    let mut i = n;
-    while 0 < i {
-        i -= 1;
-        line[at + i] = hex_digit((left % 16) as u8);
-        left = left / 16;
-    }
+    write_digits::<16, _>(text, v, hex_digit);
 }
 
-// Writes a packet's bytes as hex pairs from position 15 on.
-fn write_packet(packet: &[u8], line: &mut [u8])
-    requires { 15 + 2 * length packet.now ≤ length line.old }
-    ensures { line.new ≡ overwrite line.old 15 (hex_pairs packet.now) }
+// Writes a packet's bytes as hex pairs. By index: of what `chunks_exact_mut` lends a proof knows nothing afterwards.
+fn write_packet(packet: &[u8], text: &mut [u8])
+    requires { length text.old ≡ 2 * length packet.now }
+    ensures { text.new ≡ hex_pairs packet.now }
 {
-    let mut i = 0;
-    while i < packet.len() {
-        write_hex(line, 15 + 2 * i, 2, packet[i] as u64);
-        i += 1;
+    for (i, byte) in packet.iter().enumerate() {
+        let at = 2 * i;
+        write_hex(&mut text[at..at + 2], u64::from(*byte));
     }
 }
 
 // Writes all of a line that fits.
 fn write_fields(side: u8, clock: u64, packet: &[u8], line: &mut [u8])
-    requires { (side < 2) × (15 + 2 * length packet.now ≤ length line.old) }
-    ensures { line.new ≡ overwrite line.old 0 (line_of side clock packet.now) }
+    requires { (side < 2) × (length line.old ≡ 15 + 2 * length packet.now) }
+    ensures { line.new ≡ line_of side clock packet.now }
 {
-    line[0] = 48 + side;
+    line[0] = b'0' + side;
     line[1] = b' ';
-    write_hex(line, 2, 12, clock);
+    write_hex(&mut line[2..14], clock);
     line[14] = b' ';
-    write_packet(packet, line);
+    write_packet(packet, &mut line[15..]);
 }
 
 // Writes the line of a packet.
-#[tactic(auto, using(choice::proofs::Choice::when_cond), unfolding(crate::specs::Write::write_line, crate::specs::Write::line_after))]
-pub fn write_line(side: u32, clock: u64, packet: &[u8], line: &mut [u8]) -> LineWrite
+#[tactic(auto, using(choice::proofs::Choice::when_cond), unfolding(octets::specs::Overwrite::overwrite, crate::specs::Write::write_line, crate::specs::Write::line_after))]
+pub fn write_line(
+    side: u32,
+    clock: u64,
+    packet: &[u8],
+    line: &mut [u8],
+) -> Result<usize, WriteLineError>
     ensures { (result ≡ write_line side clock (length packet.now) (length line.old))
         × (line.new ≡ line_after_writing side clock packet.now line.old)
         × (write_answer result ≡ writing side clock packet.now line.old) }
 {
     let n = packet.len();
     if 1 < side {
-        return LineWrite::UnknownSide;
+        return Err(WriteLineError::UnknownSide);
     }
-    if 281_474_976_710_656 <= clock {
-        return LineWrite::ClockTooLarge;
+    if 1 << 48 <= clock {
+        return Err(WriteLineError::ClockTooLarge);
     }
-    if n == 0 {
-        return LineWrite::PacketLength;
-    }
-    if 2048 < n {
-        return LineWrite::PacketLength;
+    if n == 0 || 2048 < n {
+        return Err(WriteLineError::PacketLength);
     }
     let whole = 15 + 2 * n;
     if line.len() < whole {
-        return LineWrite::NoRoom;
+        return Err(WriteLineError::NoRoom);
     }
-    let side = side as u8;
-    write_fields(side, clock, packet, line);
-    LineWrite::Written(whole)
+    write_fields(side as u8, clock, packet, &mut line[..whole]);
+    Ok(whole)
 }

@@ -1,9 +1,9 @@
 // Runs a trace: document 01, "Trace lines". Here it is only read and written; what is printed is in `replay`.
 #![tactic(auto)]
 
-ghost use Rattle.std.specs.Prelude.{◌≤◌, ◌≡◌, IfOk};
+ghost use Rattle.std.specs.Prelude.{◌≡◌, ◌≤◌, IfOk, length};
 
-use replay::Progress;
+use replay::{Progress, TraceRun};
 use std::io;
 use std::io::{Read, Write};
 
@@ -19,6 +19,29 @@ type Table = [u8; 4160];
 // 8 characters for each byte of a piece.
 type Output = [u8; 524288];
 
+// A run at its start. The program's arrays are its memory, so that nothing is allocated.
+fn start<'a>(table: &'a mut Table, line: &'a mut Line, out: &'a mut Output) -> TraceRun<'a>
+    ensures { (length result.out.now ≡ 524288) × (result.progress.used ≡ 0) }
+{
+    TraceRun {
+        table,
+        line,
+        out,
+        progress: Progress::default(),
+    }
+}
+
+// Tells standard error of a failure.
+fn told<T, E: Write>(done: io::Result<T>, errors: &mut E, message: &[u8]) -> io::Result<T>
+    ensures { result ≡ done }
+{
+    if done.is_err() {
+        // Nothing is left to do where this fails too.
+        let _ = errors.write_all(message);
+    }
+    done
+}
+
 // The bytes that are there, as soon as any are, so that a live input is answered at once; 0 at the end of the input.
 fn read_piece<R: Read, E: Write>(
     reader: &mut R,
@@ -28,75 +51,61 @@ fn read_piece<R: Read, E: Write>(
     ensures { IfOk result (λ n. n ≤ 65536) }
 {
     let got = reader.read(piece);
-    if got.is_err() {
-        let _told = errors
-            .write_all(b"trace_filter: standard input can't be read\n")
-            .is_ok();
-    }
-    got
+    told(got, errors, b"trace_filter: standard input can't be read\n")
 }
 
-// Writes the text.
-fn write_used<W: Write, E: Write>(
+// Writes the text that is to be written. Writer, errors and run are given apart: a struct of the three would be made once and opened in
+// each function.
+fn write_text<W: Write, E: Write>(
     writer: &mut W,
     errors: &mut E,
-    out: &Output,
-    used: usize,
+    run: &TraceRun<'_>,
 ) -> io::Result<()>
-    requires { used ≤ 524288 }
+    requires { run.now.progress.used ≤ length run.now.out.now }
 {
-    let all = &out[..];
-    let written = writer.write_all(&all[0..used]);
-    if written.is_err() {
-        let _told = errors
-            .write_all(b"trace_filter: standard output can't be written\n")
-            .is_ok();
-    }
-    written
+    let used = run.progress.used;
+    let out = &*run.out;
+    let written = writer.write_all(&out[..used]);
+    told(
+        written,
+        errors,
+        b"trace_filter: standard output can't be written\n",
+    )
 }
 
-// Writes what the end of the input adds.
+// Writes what the end of the input adds. That the output has this program's room is asked for here: a TraceRun may have any.
 fn finish<W: Write, E: Write>(
     writer: &mut W,
     errors: &mut E,
-    line: &Line,
-    table: &mut Table,
-    out: &mut Output,
-    progress: Progress,
+    run: &mut TraceRun<'_>,
 ) -> io::Result<()>
-    requires { (progress.kept ≤ 4112) × (progress.used ≡ 0) }
+    requires { (length run.old.out.now ≡ 524288) × (run.old.progress.used ≡ 0) }
 {
-    let last = replay::finish(line, table, out, progress);
-    write_used(writer, errors, out, last.used)
+    run.finish();
+    write_text(writer, errors, run)
 }
 
 // Where the input can't be read it ends, and that is the error answered, unless the totals can't be written either.
-fn run<R: Read, W: Write, E: Write>(
+fn run_trace<R: Read, W: Write, E: Write>(
     reader: &mut R,
     writer: &mut W,
     errors: &mut E,
     piece: &mut Piece,
-    line: &mut Line,
-    table: &mut Table,
-    out: &mut Output,
-) -> io::Result<()> {
-    let mut progress = replay::start();
+    run: &mut TraceRun<'_>,
+) -> io::Result<()>
+    requires { (length run.old.out.now ≡ 524288) × (run.old.progress.used ≡ 0) }
+{
     // A proved loop has to end, and nothing says that the input does.
-    let mut turns = u64::MAX;
-    while turns > 0 {
-        turns -= 1;
+    for _ in 0..u64::MAX {
         match read_piece(reader, errors, piece) {
+            Ok(0) => return finish(writer, errors, run),
             Ok(n) => {
-                if n == 0 {
-                    return finish(writer, errors, line, table, out, progress);
-                }
-                let bytes = &piece[..];
-                let fed = replay::feed(&bytes[0..n], line, table, out, progress);
-                write_used(writer, errors, out, fed.used)?;
-                progress = replay::emptied(fed);
+                run.feed(&piece[..n]);
+                write_text(writer, errors, run)?;
+                run.progress.used = 0;
             }
             Err(e) => {
-                finish(writer, errors, line, table, out, progress)?;
+                finish(writer, errors, run)?;
                 return Err(e);
             }
         }
@@ -112,13 +121,6 @@ fn main(rt: HostRuntime) -> io::Result<()> {
     let mut line = [0u8; 4112];
     let mut table = [0u8; 4160];
     let mut out = [0u8; 524288];
-    run(
-        &mut reader,
-        &mut writer,
-        &mut errors,
-        &mut piece,
-        &mut line,
-        &mut table,
-        &mut out,
-    )
+    let mut run = start(&mut table, &mut line, &mut out);
+    run_trace(&mut reader, &mut writer, &mut errors, &mut piece, &mut run)
 }

@@ -1,20 +1,14 @@
-use mathlib.Core.Path.{sym, ◌∙◌}
-use native.Mathlib.Omega.{arith}
-use Rattle.trace.specs.Read.{first_illegal}
-use Rattle.trace.proofs.Read.{illegal-in-part, all-legal}
+-- No byte of the head is illegal, and the rest are hex digits; else the search of the whole line says it.
+use Rattle.std.proofs.Common.{◌≡◌, None, sym, ◌-◌, ◌≤◌, length, take, drop, length-drop, take_all, arith, rules}
+use Rattle.trace.proofs.Read.{illegal_position, illegal_position-or-length, all-legal}
 use Rattle.trace.proofs.first_illegal.Goals as goal
 
-pub returns-then-offset-head : goal.returns-then-offset-head
-returns-then-offset-head c =
-    let h = c.illegal_before-offset.ensures in
-    h ∙ illegal-in-part _ _ (omega (arith, c.least-head.ensures)) (rw (← h) c.if-offset-head.true)
-
-pub returns-then-any_not_hex-eq0 : goal.returns-then-any_not_hex-eq0
-returns-then-any_not_hex-eq0 c =
-    let e = c in
-    let h = e.illegal_before-offset.ensures in
-    sym (all-legal _ _ e.least-head.ensures (rw (← h) e.if-offset-head.false) (c.any_not_hex.ensures c.if-any_not_hex-eq0.true))
+pub returns-then-all_hex : goal.returns-then-all_hex
+returns-then-all_hex c =
+    let l = c.args.line.now in
+    let none : illegal_position (take c.min-head.result l) ≡ None = search rules in
+    let short : length (drop c.min-head.result l) ≤ length l - c.min-head.result = simp length-drop (omega arith) in
+    sym (all-legal l c.min-head.result c.min-head.ensures none (rw (take_all _ (drop c.min-head.result l) short) at (c.all_hex.ensures c.if-all_hex.true)))
 
 pub returns : goal.returns
-unfolding first_illegal
-returns c = c.illegal_before.ensures
+returns c = let e = illegal_position-or-length c.args.line.now in search rules
