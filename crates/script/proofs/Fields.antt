@@ -2,8 +2,8 @@
 use Rattle.std.proofs.Common.{◌≡◌, ℕ, zero, suc, ◌+◌, ◌-◌, ◌*◌, ◌/◌, ◌%◌, ◌^◌, ◌<◌, ◌≤◌, List, [], ◌∷◌, ◌++◌, length, get_or, take, drop, sym, refl, ap, ◌∙◌, mod-eq_of_lt, add-one, arith, drop_of_length-le, drop-cons, take-suc}
 use native.Mathlib.Nat.{mul-add-mod_self_right}
 use lib.Seq.{take-length}
-use Rattle.choice.proofs.Choice.{when-true, when-false, when-=, when-=-not}
-use Rattle.choice.proofs.Tests.{true-between, not-between-below, not-between-above}
+use Rattle.choice.proofs.Choice.{when-true, when-=, when-=-not}
+use Rattle.choice.proofs.Tests.{true-between}
 use Rattle.octets.specs.Digits.{number}
 use Rattle.script.specs.Fields.{field, decimal_value, decimal_number, decimal_field}
 
@@ -12,14 +12,6 @@ use Rattle.script.specs.Fields.{field, decimal_value, decimal_number, decimal_fi
 pub decimal_value-digit : (c : ℕ) → 48 ≤ c → c ≤ 57 → decimal_value c ≡ c - 48
 unfolding decimal_value
 decimal_value-digit c low high = when-true _ _ _ (true-between 48 57 c low high)
-
-pub decimal_value-below : (c : ℕ) → c < 48 → decimal_value c ≡ 0
-unfolding decimal_value
-decimal_value-below c h = when-false _ _ _ (not-between-below 48 57 c h)
-
-pub decimal_value-above : (c : ℕ) → 57 < c → decimal_value c ≡ 0
-unfolding decimal_value
-decimal_value-above c h = when-false _ _ _ (not-between-above 48 57 c h)
 
 -- A field, character by character
 
@@ -79,11 +71,6 @@ number_from-mod v (c ∷ text) =
     sym (number_from-mod (v % 2 ^ 64 * 10 + decimal_value c) text)
     ∙ ap (λ (n : ℕ). number_from n text % 2 ^ 64) (sym (digit-mod v (decimal_value c)))
     ∙ number_from-mod (v * 10 + decimal_value c) text
-
--- a number with one more digit, its halves by themselves
-pub digit-halves : (v d : ℕ) → (v / 2 ^ 32 * 10 % 2 ^ 32 * 2 ^ 32 + (v % 2 ^ 32 * 10 + d)) % 2 ^ 64 ≡ (v * 10 + d) % 2 ^ 64
-digit-halves v d =
-    sym (mod-off (v * 10 + d) (v / 2 ^ 32 * 10 / 2 ^ 32) (v / 2 ^ 32 * 10 % 2 ^ 32 * 2 ^ 32 + (v % 2 ^ 32 * 10 + d)) (omega arith))
 
 -- What is left to read of a line
 

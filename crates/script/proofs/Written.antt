@@ -1,12 +1,11 @@
 -- Laws of what was put: known bytes grow step by step.
-use Rattle.std.proofs.Common.{◌≡◌, ℕ, ◌+◌, ◌<◌, ◌≤◌, List, [], ◌∷◌, ◌++◌, length, get_or, take, set, sym, ap, ◌∙◌, add-one, append_assoc, take-suc, Some, None}
-use Rattle.std.proofs.Math.Seq.{take-suc-set}
+use Rattle.std.proofs.Common.{ℕ, ◌+◌, ◌<◌, ◌≤◌, List, [], ◌∷◌, ◌++◌, length, get_or, take, sym, ap, ◌∙◌, add-one, append_assoc, take-suc, Some, None}
 use Rattle.std.proofs.lemmas.List.{append-nil, take_all}
 use Rattle.std.specs.Io.KnownBytes.{Appends}
 use Rattle.std.specs.declared.option.Option.{Option}
 use Rattle.report.specs.Text.{decimal_text}
 use Rattle.script.specs.Fields.{spaced}
-use Rattle.script.specs.Output.{all_put}
+use Rattle.script.proofs.Collected.{spaced-last}
 
 pub Appends-nothing : (a : Option (List ℕ)) → Appends a a []
 Appends-nothing None = tt
@@ -18,37 +17,12 @@ Appends-then (Some l) None c xs ys p q = elim p [ ]
 Appends-then (Some l) (Some m) None xs ys p q = elim q [ ]
 Appends-then (Some l) (Some m) (Some n) xs ys p q = q ∙ ap (λ (k : List ℕ). k ++ ys) p ∙ append_assoc l xs ys
 
--- a byte that there is room for is stored in the buffer
-pub put-room :
-    (contents : Option (List ℕ)) (out : List ℕ) (used b : ℕ) → used < length out →
-    Appends (all_put contents (out, used)) (all_put contents (set out used b, used + 1)) (b ∷ [])
-put-room None out used b room = tt
-put-room (Some xs) out used b room = rw (add-one, take-suc-set out used b room) (sym (append_assoc xs (take used out) (b ∷ [])))
-
--- a full buffer is written, and the byte is its first one
-pub put-full :
-    (before after : Option (List ℕ)) (out : List ℕ) (used b : ℕ) → 0 < length out → length out ≤ used → Appends before after out →
-    Appends (all_put before (out, used)) (all_put after (set out 0 b, 1)) (b ∷ [])
-put-full None after out used b some full wrote = tt
-put-full (Some xs) None out used b some full wrote = elim wrote [ ]
-put-full (Some xs) (Some ys) out used b some full wrote =
-    rw (take-suc-set out 0 b some, take_all used out full, wrote)
-
 -- one more byte of a list
 pub put-next :
     (a b c : Option (List ℕ)) (bytes : List ℕ) (i : ℕ) → i < length bytes →
     Appends a b (take i bytes) → Appends b c (get_or bytes i 0 ∷ []) → Appends a c (take (i + 1) bytes)
 put-next a b c bytes i inside before next =
     rw (add-one, take-suc bytes i 0 inside) (Appends-then a b c (take i bytes) (get_or bytes i 0 ∷ []) before next)
-
-pub put-all : (a b : Option (List ℕ)) (bytes : List ℕ) (i : ℕ) → length bytes ≤ i → Appends a b (take i bytes) → Appends a b bytes
-put-all a b bytes i past all = rw (take_all i bytes past) at all
-
-spaced-last : (rest : List ℕ) (v : ℕ) → spaced (rest ++ (v ∷ [])) ≡ spaced rest ++ ((32 ∷ []) ++ decimal_text v)
-unfolding spaced
-spaced-last [] v = ap (λ (l : List ℕ). 32 ∷ l) (append-nil (decimal_text v))
-spaced-last (w ∷ rest) v =
-    ap (λ (l : List ℕ). 32 ∷ l) (ap (λ (l : List ℕ). decimal_text w ++ l) (spaced-last rest v) ∙ sym (append_assoc (decimal_text w) (spaced rest) ((32 ∷ []) ++ decimal_text v)))
 
 -- one more number after a space
 pub put_spaced-next :

@@ -1,141 +1,129 @@
 // Reads a script by lines and collects the output, for the programs that run one.
 #![tactic(auto)]
 
-ghost use Rattle.std.specs.Prelude.{ℕ, min, Ok, ◌≡◌, ◌+◌, ◌*◌, ◌%◌, ◌^◌, ◌<◌, ◌≤◌, length, drop, slice_index, [], ◌∷◌, IsOk, IfOk, OnErr};
+ghost use Rattle.std.specs.Prelude.{ℕ, Ok, Some, None, IsOk, IfOk, IfSome, OnOk, OnErr, ◌≡◌, ◌+◌, ◌-◌, ◌*◌, ◌%◌, ◌^◌, ◌<◌, ◌≤◌, List, length, slice_index, [], ◌∷◌, ⊤};
 ghost use Rattle.std.specs.Io.KnownBytes.{Appends};
+ghost use Rattle.arrayvec.specs.ArrayVec.{array_vec_len};
 ghost use Rattle.report.specs.Text.{decimal_text};
-ghost use Rattle.script.specs.declared.Arrived.TheVariants.{Byte};
 ghost use Rattle.script.specs.Output.{with_byte, with_bytes, all_put};
 ghost use Rattle.script.specs.Fields.{decimal_value, decimal_field, fields_text};
+ghost use Rattle.script.specs.Lines.{AreLines};
+ghost use Rattle.script.specs.Steps.{Runs};
 
-// The programs use it too.
-pub use octets::least;
+use arrayvec::ArrayVec;
 use std::io;
 use std::io::{Read, Write};
-use std::num::wrapping_add_u64;
 
-// The input is read in pieces of at most this size.
-pub type Chunk = [u8; 65536];
+// A line of the script; what is longer is cut.
+pub type Line = ArrayVec<u8, 4096>;
 
-// What is longer is cut.
-pub type Line = [u8; 4096];
+// A last line without a newline is a line if it has any character.
+fn last_line(line: Line) -> Option<Line>
+    ensures some { 0 < array_vec_len line → result ≡ Some line }
+    ensures none { array_vec_len line ≡ 0 → result ≡ None }
+{
+    if line.is_empty() { None } else { Some(line) }
+}
 
-pub type Output = [u8; 65536];
-
-// The input: the chunk holds so many bytes, and those before at are taken.
-#[derive(Clone, Copy)]
-pub struct Input {
+// The lines of an input, which is read in pieces. Of the latest piece the bytes from at on are still to be given.
+// The piece is an array with its length beside: a reader writes bytes that are lent, and a vector lends none that it does not hold yet.
+#[derive(Drop)]
+pub struct Lines<R> {
+    reader: R,
+    piece: [u8; 65536],
     at: usize,
     have: usize,
+    ghost inside: { (at ≤ have) × (have ≤ 65536) },
 }
 
-#[derive(Clone, Copy)]
-enum Arrived {
-    Byte(u8, Input),
-    End,
-}
+impl<R: Read> Lines<R> {
+    ghost use Rattle.std.specs.Option.{option_to_list};
+    ghost use Rattle.std.specs.Io.KnownBytes.{Keeps, Consumes, IsAtEnd};
+    ghost use Rattle.script.specs.Lines.{TakesLine};
+    ghost use Rattle.script.specs.Unread.{unread};
 
-// What reading a line of the script gives; the last one is where the input ends.
-#[derive(Clone, Copy)]
-pub struct LineEnd {
-    pub length: usize,
-    pub is_last: bool,
-    pub input: Input,
-}
-
-impl Input {
     // Nothing is read yet.
-    pub fn start() -> Input
-        ensures { result ≡ record { at = 0; have = 0 } }
+    pub fn new(reader: R) -> Lines<R>
+        ensures { (result.reader ≡ reader) × (result.at ≡ 0) × (result.have ≡ 0) }
     {
-        Input { at: 0, have: 0 }
-    }
-}
-
-// The next byte of the input. One that the chunk holds is given without a read, so that no error comes then.
-fn next_byte<R: Read>(reader: &mut R, chunk: &mut Chunk, input: Input) -> io::Result<Arrived>
-    ensures length_kept { length chunk.new ≡ length chunk.old }
-    ensures held { input.at < min input.have 65536 →
-        (result ≡ Ok (Byte (slice_index chunk.old input.at) (record { at = input.at + 1; have = input.have })))
-        × (chunk.new ≡ chunk.old) }
-{
-    let at = input.at;
-    if at < least(input.have, 65536) {
-        return Ok(Arrived::Byte(
-            chunk[at],
-            Input {
-                at: at + 1,
-                have: input.have,
-            },
-        ));
-    }
-    let n = reader.read(chunk)?;
-    if n == 0 {
-        return Ok(Arrived::End);
-    }
-    Ok(Arrived::Byte(chunk[0], Input { at: 1, have: n }))
-}
-
-// Reads to the next newline or to the end of the input; what the line cannot hold is dropped. Nothing can be promised of what standard
-// input holds: the answer, the chunk and the line's first `length` bytes are open. Promised: `length` is at most 4,096, the line is
-// unchanged past it, both buffers keep their lengths, also where a read fails, and none is needed while the chunk holds a newline.
-pub fn next_line<R: Read>(
-    reader: &mut R,
-    chunk: &mut Chunk,
-    line: &mut Line,
-    start: Input,
-) -> io::Result<LineEnd>
-    ensures length_bound { IfOk result (λ end. (end.length ≤ 4096) × (drop end.length line.new ≡ drop end.length line.old)) }
-    ensures line_len_unchanged { (length line.new ≡ length line.old) × (length chunk.new ≡ length chunk.old) }
-    ensures held { (i : ℕ) → start.at ≤ i → i < min start.have 65536 → slice_index chunk.old i ≡ 10 →
-        IsOk result }
-{
-    let mut input = start;
-    let mut length: usize = 0;
-    // A proved loop has to end, and nothing says that the input does.
-    let mut turns = u64::MAX;
-    while turns > 0 {
-        turns -= 1;
-        let got = next_byte(reader, chunk, input)?;
-        match got {
-            Arrived::End => {
-                return Ok(LineEnd {
-                    length: length,
-                    is_last: true,
-                    input: input,
-                });
-            }
-            Arrived::Byte(b, after) => {
-                input = after;
-                if b == b'\n' {
-                    return Ok(LineEnd {
-                        length: length,
-                        is_last: false,
-                        input: input,
-                    });
-                }
-                if length < 4096 {
-                    line[length] = b;
-                    length += 1;
-                }
-            }
+        Lines {
+            reader,
+            piece: [0; 65536],
+            at: 0,
+            have: 0,
         }
     }
-    Ok(LineEnd {
-        length: length,
-        is_last: true,
-        input: input,
-    })
+
+    // Reads the next piece, and gives how many bytes it has: none at the end of the input. The latest piece has all been given.
+    fn refill(&mut self) -> io::Result<usize>
+        ensures piece { IfOk result (λ n. (n ≡ self.new.have) × (self.new.at ≡ 0)) }
+        ensures kept { self.old.at ≡ self.old.have → IfOk result (λ n.
+            Keeps (unread R.remaining self.old) (unread R.remaining self.new)
+            × (n ≡ 0 → IsAtEnd (unread R.remaining self.new))) }
+    {
+        let n = self.reader.read(&mut self.piece)?;
+        self.at = 0;
+        self.have = n;
+        Ok(n)
+    }
+
+    // The next byte of the piece.
+    fn take_held(&mut self) -> u8
+        requires { self.old.at < self.old.have }
+        ensures value { result ≡ slice_index self.old.piece self.old.at }
+        ensures left { (self.new.at ≡ self.old.at + 1) × (self.new.have ≡ self.old.have) × (self.new.piece ≡ self.old.piece) }
+        ensures taken { Consumes (unread R.remaining self.old) (unread R.remaining self.new) (result ∷ []) }
+    {
+        let b = self.piece[self.at];
+        self.at += 1;
+        b
+    }
+
+    // The next byte of the input. One that the piece holds is given without a read, so that no error comes then.
+    fn next_byte(&mut self) -> io::Result<Option<u8>>
+        ensures held { self.old.at < self.old.have →
+            (result ≡ Ok (Some (slice_index self.old.piece self.old.at)))
+            × (self.new.at ≡ self.old.at + 1)
+            × (self.new.have ≡ self.old.have)
+            × (self.new.piece ≡ self.old.piece) }
+        ensures taken { IfOk result (λ b.
+            Consumes (unread R.remaining self.old) (unread R.remaining self.new) (option_to_list b)
+            × (b ≡ None → IsAtEnd (unread R.remaining self.new))) }
+    {
+        if self.at == self.have && self.refill()? == 0 {
+            return Ok(None);
+        }
+        Ok(Some(self.take_held()))
+    }
+
+    // The next line, up to its newline or to the end of the input, or None at the end; what a line cannot hold is dropped. Of standard
+    // input nothing is known, so that the line is open; where the reader's bytes are known it is their first. A line has at most 4,096
+    // characters, and no read is needed, and no error comes, while the piece holds a newline.
+    pub fn next_line(&mut self) -> io::Result<Option<Line>>
+        ensures length_bound { IfOk result (λ found. IfSome found (λ line. array_vec_len line ≤ 4096)) }
+        ensures held { (i : ℕ) → self.old.at ≤ i → i < self.old.have → slice_index self.old.piece i ≡ 10 → IsOk result }
+        ensures taken { IfOk result (TakesLine (unread R.remaining self.old) (unread R.remaining self.new)) }
+    {
+        let mut line = Line::new();
+        // A proved loop has to end, and nothing says that the input does.
+        for _ in 0..u64::MAX {
+            match self.next_byte()? {
+                Some(b'\n') => return Ok(Some(line)),
+                Some(b) => {
+                    let _cut = line.try_push(b);
+                }
+                None => break,
+            }
+        }
+        Ok(last_line(line))
+    }
 }
 
-// The character at a place of a line, 0 past its end.
+// The character at a place of a line, 0 past its end and no Option, as the clause has it that the laws of fields cite.
 pub fn character(line: &[u8], at: usize) -> u8
     ensures { result ≡ slice_index line.now at }
 {
-    if at < line.len() {
-        return line[at];
-    }
-    0
+    line.get(at).copied().unwrap_or(0)
 }
 
 #[tactic(auto, using(choice::proofs::Choice::when_cond), unfolding(crate::specs::Fields::decimal_value))]
@@ -143,120 +131,146 @@ fn decimal_value(c: u8) -> u64
     ensures { (result ≡ decimal_value c) × (result < 10) }
 {
     match c {
-        b'0'..=b'9' => (c - b'0') as u64,
+        b'0'..=b'9' => u64::from(c - b'0'),
         _ => 0,
     }
 }
 
-// A number with one more digit, modulo 2^64: its halves by themselves, since the product may not fit.
+// A number with one more digit, modulo 2^64.
 fn with_digit(v: u64, c: u8) -> u64
     ensures { result ≡ (v * 10 + decimal_value c) % 2 ^ 64 }
 {
-    let high = v / 4294967296 * 10 % 4294967296;
-    let low = v % 4294967296 * 10 + decimal_value(c);
-    wrapping_add_u64(high * 4294967296, low)
+    v.wrapping_mul(10).wrapping_add(decimal_value(c))
 }
 
 // The decimal number after so many spaces of a line, modulo 2^64; 0 where there is none.
 pub fn decimal_field(line: &[u8], at: usize) -> u64
     ensures { result ≡ decimal_field line.now at }
 {
-    let mut v: u64 = 0;
+    let mut v = 0;
     let mut spaces = at;
-    let mut i = 0;
-    while i < line.len() {
-        if line[i] == b' ' {
+    for &c in line {
+        if c == b' ' {
             if spaces == 0 {
                 return v;
             }
             spaces -= 1;
         } else if spaces == 0 {
-            v = with_digit(v, line[i]);
+            v = with_digit(v, c);
         }
-        i += 1;
     }
     v
 }
 
-// Adds a byte to the output, which is written where it is full, and gives how much of it is in use.
-#[tactic(auto, using(choice::proofs::Choice::when_cond), unfolding(crate::specs::Output::with_byte))]
-pub fn put<W: Write>(writer: &mut W, out: &mut Output, used: usize, b: u8) -> io::Result<usize>
-    ensures result_after { IfOk result (λ n. (out.new, n) ≡ with_byte (out.old, used) b) }
-    ensures written { IfOk result (λ n. Appends (all_put (W.contents writer.old) (out.old, used)) (all_put (W.contents writer.new) (out.new, n)) (b ∷ [])) }
-    ensures fits { used < 65536 → IsOk result }
-    ensures upper_bound { IfOk result (λ n. n ≤ 65536) }
-    ensures unchanged { OnErr result (out.new ≡ out.old) }
-{
-    if used < 65536 {
-        out[used] = b;
-        return Ok(used + 1);
-    }
-    writer.write_all(&out[..])?;
-    out[0] = b;
-    Ok(1)
+// Collects what is to be written: as soon as 65,536 bytes are held, the next one has them written first.
+#[derive(Drop)]
+pub struct Output<W> {
+    writer: W,
+    held: ArrayVec<u8, 65536>,
 }
 
-pub fn put_bytes<W: Write>(
-    writer: &mut W,
-    out: &mut Output,
-    used: usize,
-    bytes: &[u8],
-) -> io::Result<usize>
-    requires { used ≤ 65536 }
-    ensures result_after { IfOk result (λ n. (out.new, n) ≡ with_bytes (out.old, used) bytes.now) }
-    ensures written { IfOk result (λ n. Appends (all_put (W.contents writer.old) (out.old, used)) (all_put (W.contents writer.new) (out.new, n)) bytes.now) }
-    ensures fits { used + length bytes.now ≤ 65536 → IsOk result }
-    ensures upper_bound { IfOk result (λ n. n ≤ 65536) }
-    ensures length_kept { OnErr result (length out.new ≡ length out.old) }
-{
-    let mut n = used;
-    let mut i = 0;
-    while i < bytes.len() {
-        n = put(writer, out, n, bytes[i])?;
-        i += 1;
+impl<W: Write> Output<W> {
+    // Nothing is put yet.
+    pub fn new(writer: W) -> Output<W>
+        ensures { (result.writer ≡ writer) × (result.held.items ≡ []) }
+    {
+        Output {
+            writer,
+            held: ArrayVec::new(),
+        }
     }
-    Ok(n)
+
+    #[tactic(auto, using(choice::proofs::Choice::when_cond), unfolding(crate::specs::Output::with_byte))]
+    pub fn put(&mut self, b: u8) -> io::Result<()>
+        ensures held_after { OnOk result (self.new.held.items ≡ with_byte self.old.held.items b) }
+        ensures written { OnOk result (Appends (all_put W.contents self.old) (all_put W.contents self.new) (b ∷ [])) }
+        ensures fits { length self.old.held.items < 65536 → IsOk result }
+        ensures unchanged { OnErr result (self.new.held.items ≡ self.old.held.items) }
+    {
+        if self.held.is_full() {
+            self.writer.write_all(self.held.as_slice())?;
+            self.held.clear();
+        }
+        self.held.push(b);
+        Ok(())
+    }
+
+    pub fn put_bytes(&mut self, bytes: &[u8]) -> io::Result<()>
+        ensures held_after { OnOk result (self.new.held.items ≡ with_bytes self.old.held.items bytes.now) }
+        ensures written { OnOk result (Appends (all_put W.contents self.old) (all_put W.contents self.new) bytes.now) }
+        ensures fits { length self.old.held.items + length bytes.now ≤ 65536 → IsOk result }
+    {
+        for &b in bytes {
+            self.put(b)?;
+        }
+        Ok(())
+    }
+
+    pub fn put_decimal(&mut self, v: u64) -> io::Result<()>
+        ensures held_after { OnOk result (self.new.held.items ≡ with_bytes self.old.held.items (decimal_text v)) }
+        ensures written { OnOk result (Appends (all_put W.contents self.old) (all_put W.contents self.new) (decimal_text v)) }
+        ensures fits { length self.old.held.items + length (decimal_text v) ≤ 65536 → IsOk result }
+    {
+        let mut digits = [0u8; 20];
+        let n = report::put_decimal(&mut digits, 0, v);
+        self.put_bytes(&digits[..n])
+    }
+
+    // Puts numbers with a space between each two.
+    pub fn put_fields(&mut self, first: u64, rest: &[u64]) -> io::Result<()>
+        ensures held_after { OnOk result (self.new.held.items ≡ with_bytes self.old.held.items (fields_text first rest.now)) }
+        ensures written { OnOk result (Appends (all_put W.contents self.old) (all_put W.contents self.new) (fields_text first rest.now)) }
+        ensures fits { length self.old.held.items + length (fields_text first rest.now) ≤ 65536 → IsOk result }
+    {
+        self.put_decimal(first)?;
+        for &v in rest {
+            self.put(b' ')?;
+            self.put_decimal(v)?;
+        }
+        Ok(())
+    }
+
+    // Writes what is held, and gives the writer back.
+    pub fn finish(self) -> io::Result<W>
+    where
+        W: Drop,
+        ensures { IfOk result (λ after. Appends (W.contents self.writer) (W.contents after) self.held.items) }
+    {
+        let Output { mut writer, held } = self;
+        writer.write_all(held.as_slice())?;
+        Ok(writer)
+    }
 }
 
-pub fn put_decimal<W: Write>(
-    writer: &mut W,
-    out: &mut Output,
-    used: usize,
-    v: u64,
-) -> io::Result<usize>
-    requires { used ≤ 65536 }
-    ensures result_after { IfOk result (λ n. (out.new, n) ≡ with_bytes (out.old, used) (decimal_text v)) }
-    ensures written { IfOk result (λ n. Appends (all_put (W.contents writer.old) (out.old, used)) (all_put (W.contents writer.new) (out.new, n)) (decimal_text v)) }
-    ensures fits { used + length (decimal_text v) ≤ 65536 → IsOk result }
-    ensures upper_bound { IfOk result (λ n. n ≤ 65536) }
-    ensures length_kept { OnErr result (length out.new ≡ length out.old) }
-{
-    let mut digits = [0u8; 20];
-    let n = report::put_decimal(&mut digits, 0, v);
-    put_bytes(writer, out, used, &digits[0..n])
+// A program that runs a script: it does a step on each line.
+pub trait Script {
+    // A step may begin with this state, on this line put this text, and end with this state.
+    ghost steps: { Self → List ℕ → List ℕ → Self → Type 0 } = { λ _ _ _ _. ⊤ };
+
+    fn step<W: Write>(&mut self, line: &[u8], out: &mut Output<W>) -> io::Result<()>
+        ensures { OnOk result ((text : List ℕ) × steps self.old line.now text self.new × Appends (all_put W.contents out.old) (all_put W.contents out.new) text) };
 }
 
-// Adds numbers with a space between each two.
-pub fn put_fields<W: Write>(
-    writer: &mut W,
-    out: &mut Output,
-    used: usize,
-    first: u64,
-    rest: &[u64],
-) -> io::Result<usize>
-    requires { used ≤ 65536 }
-    ensures result_after { IfOk result (λ n. (out.new, n) ≡ with_bytes (out.old, used) (fields_text first rest.now)) }
-    ensures written { IfOk result (λ n. Appends (all_put (W.contents writer.old) (out.old, used)) (all_put (W.contents writer.new) (out.new, n)) (fields_text first rest.now)) }
-    ensures fits { used + length (fields_text first rest.now) ≤ 65536 → IsOk result }
-    ensures upper_bound { IfOk result (λ n. n ≤ 65536) }
-    ensures length_kept { OnErr result (length out.new ≡ length out.old) }
+// Runs the whole script, and gives the writer back.
+pub fn run<R: Read + Drop, W: Write + Drop, S: Script + Drop>(
+    reader: R,
+    writer: W,
+    script: S,
+) -> io::Result<W>
+    ensures { IfOk result (λ after. (lines : List (List ℕ)) × (text : List ℕ) × (end : S)
+        × Runs S.steps script lines text end
+        × IfSome (R.remaining reader) (λ input. length input < 2 ^ 64 - 1 → AreLines input lines)
+        × Appends (W.contents writer) (W.contents after) text) }
 {
-    let mut n = put_decimal(writer, out, used, first)?;
-    let mut i = 0;
-    while i < rest.len() {
-        n = put(writer, out, n, b' ')?;
-        n = put_decimal(writer, out, n, rest[i])?;
-        i += 1;
+    let mut lines = Lines::new(reader);
+    let mut out = Output::new(writer);
+    let mut state = script;
+    // A proved loop has to end, and nothing says that the input does.
+    for _ in 0..u64::MAX {
+        match lines.next_line()? {
+            Some(line) => state.step(line.as_slice(), &mut out)?,
+            None => break,
+        }
     }
-    Ok(n)
+    out.finish()
 }

@@ -14,379 +14,201 @@
 //   ANSWER LENGTH TEXT
 //   SUM                             four hex digits
 // where HEX and TEXT are all NNNNN bytes, each '.' before, or '-' where there are none.
-#![tactic(auto)]
+#![tactic(auto, using(script::proofs::Growth::growth))]
 
-ghost use Rattle.std.specs.Prelude.{◌≤◌, ◌<◌, IfOk};
+ghost use Rattle.std.specs.Prelude.{◌<◌, OnOk};
+ghost use Rattle.script.specs.Output.{all_put};
+ghost use Rattle.script.specs.Steps.{Grows};
 
 use address::Flow;
-use packet::PacketRead;
-use script::{Chunk, Input, Line, Output};
+use arrayvec::ArrayVec;
+use script::{Output, Script};
 use segment::Segment;
 use std::io;
-use std::io::{Read, Write};
+use std::io::Write;
+use trace::{ReadAnswer, WriteAnswer};
 
-// More than the longest packet.
-type Buffer = [u8; 66000];
-
-// How much of the buffer and of the output is in use.
-#[derive(Clone, Copy)]
-struct Used {
-    buffer: usize,
-    output: usize,
+// The bytes that the next p, r, w or s is on. There is room for more than the longest packet.
+#[derive(Drop)]
+struct Vectors {
+    buffer: ArrayVec<u8, 66000>,
 }
 
-fn hex_value(c: u8) -> u8
-    ensures { result < 16 }
-{
-    match c {
-        b'0'..=b'9' => c - b'0',
-        b'a'..=b'f' => c - b'a' + 10,
-        _ => 0,
-    }
-}
-
+// The byte that two hex digits stand for.
 fn hex_pair(line: &[u8], at: usize) -> u8
     requires { at < 4096 }
 {
-    hex_value(script::character(line, at)) * 16 + hex_value(script::character(line, at + 1))
+    trace::hex_value(script::character(line, at)) * 16
+        + trace::hex_value(script::character(line, at + 1))
 }
 
-// The number that 16 hex digits stand for.
+// The number that 16 hex digits stand for. Not the reader's of trace lines, which has all its digits: here those past the line's end are 0.
 fn hex_number(line: &[u8], at: usize) -> u64
-    requires { at < 4000 }
+    requires { at < 4096 }
 {
-    let mut v: u64 = 0;
-    let mut i = 0;
-    while i < 8 {
-        // At most seven pairs are in v, so the remainder is v.
-        v = v % 72057594037927936 * 256 + (hex_pair(line, at + 2 * i) as u64);
-        i += 1;
-    }
-    v
+    (at..at + 16).fold(0, |v: u64, i| {
+        v << 4 | u64::from(trace::hex_value(script::character(line, i)))
+    })
 }
 
 // A decimal field, which has at most five digits.
-fn decimal_number(line: &[u8], at: usize) -> usize
-    ensures { result < 100000 }
-{
-    (script::decimal_field(line, at) % 100000) as usize
+fn decimal_number(line: &[u8], at: usize) -> usize {
+    (script::decimal_field(line, at) % 100_000) as usize
 }
 
-// Appends n copies of b, as far as the buffer holds them.
-fn append(buffer: &mut Buffer, used: usize, b: u8, n: usize) -> usize
-    requires { (used ≤ 66000) × (n < 100000) }
-    ensures { result ≤ 66000 }
-{
-    let end = script::least(used + n, 66000);
-    let mut i = used;
-    while i < end {
-        buffer[i] = b;
-        i += 1;
+impl Vectors {
+    // Appends n copies of b, as far as the buffer has room for them.
+    fn append(&mut self, b: u8, n: usize) {
+        for _ in 0..n {
+            let _left_out = self.buffer.try_push(b);
+        }
     }
-    i
-}
 
-// Appends the bytes of a b line.
-fn append_hex(buffer: &mut Buffer, used: usize, line: &[u8]) -> usize
-    requires { used ≤ 66000 }
-    ensures { result ≤ 66000 }
-{
-    let end = script::least(line.len(), 4095);
-    let mut n = used;
-    let mut i = 2;
-    while i < end {
-        n = append(buffer, n, hex_pair(line, i), 1);
-        i += 2;
+    // Appends the bytes of a b line.
+    fn append_hex(&mut self, line: &[u8]) {
+        if let Some(digits) = line.get(2..) {
+            for pair in digits.chunks(2) {
+                self.append(hex_pair(pair, 0), 1);
+            }
+        }
     }
-    n
 }
 
-// The last hex digit of v.
-fn hex_digit(v: u8) -> u8 {
-    let d = v % 16;
-    if d < 10 { b'0' + d } else { b'a' + (d - 10) }
-}
-
-// Adds each byte as two hex digits.
-fn put_hex<W: Write>(
-    writer: &mut W,
-    out: &mut Output,
-    used: usize,
-    bytes: &[u8],
-) -> io::Result<usize>
-    requires { used ≤ 65536 }
-    ensures { IfOk result (λ n. n ≤ 65536) }
+// Puts each byte as two hex digits.
+fn put_hex<W: Write>(bytes: &[u8], out: &mut Output<W>) -> io::Result<()>
+    ensures { OnOk result (Grows (all_put W.contents out.old) (all_put W.contents out.new)) }
 {
-    let mut n = used;
-    let mut i = 0;
-    while i < bytes.len() {
-        n = script::put(writer, out, n, hex_digit(bytes[i] / 16))?;
-        n = script::put(writer, out, n, hex_digit(bytes[i]))?;
-        i += 1;
+    for &b in bytes {
+        out.put(trace::hex_digit(b / 16))?;
+        out.put(trace::hex_digit(b % 16))?;
     }
-    Ok(n)
+    Ok(())
 }
 
-fn put_segment<W: Write>(
-    writer: &mut W,
-    out: &mut Output,
-    used: usize,
-    flow: Flow,
-    segment: Segment,
-) -> io::Result<usize>
-    requires { used ≤ 65536 }
-    ensures { IfOk result (λ n. n ≤ 65536) }
+fn put_segment<W: Write>(flow: Flow, segment: Segment, out: &mut Output<W>) -> io::Result<()>
+    ensures { OnOk result (Grows (all_put W.contents out.old) (all_put W.contents out.new)) }
 {
-    let from = flow.from;
-    let to = flow.to;
     let fields = [
-        from.address.low,
-        to.address.low,
-        from.port as u64,
-        to.port as u64,
-        segment.seq.0 as u64,
-        segment.ack.0 as u64,
-        segment.window.0 as u64,
-        segment.flags as u64,
-        segment.octets.0 as u64,
+        flow.from.address.low,
+        flow.to.address.low,
+        u64::from(flow.from.port),
+        u64::from(flow.to.port),
+        u64::from(segment.seq.0),
+        u64::from(segment.ack.0),
+        u64::from(segment.window.0),
+        u64::from(segment.flags),
+        u64::from(segment.octets.0),
     ];
-    script::put_fields(writer, out, used, 0, &fields)
+    out.put_fields(0, &fields)
 }
 
 // The command p.
-fn read_packet<W: Write>(
-    bytes: &[u8],
-    writer: &mut W,
-    out: &mut Output,
-    used: usize,
-) -> io::Result<usize>
-    requires { used ≤ 65536 }
-    ensures { IfOk result (λ n. n ≤ 65536) }
+fn read_packet<W: Write>(bytes: &[u8], out: &mut Output<W>) -> io::Result<()>
+    ensures { OnOk result (Grows (all_put W.contents out.old) (all_put W.contents out.new)) }
 {
-    let read = packet::read_ipv4(bytes);
-    match read {
-        PacketRead::Refused(cause, offset) => {
-            let fields = [offset as u64];
-            script::put_fields(writer, out, used, cause.number() as u64, &fields)
-        }
-        PacketRead::Tcp(flow, segment) => put_segment(writer, out, used, flow, segment),
+    match packet::read_ipv4(bytes) {
+        Ok((flow, segment)) => put_segment(flow, segment, out),
+        Err(refused) => out.put_fields(u64::from(refused.cause.number()), &[refused.offset as u64]),
     }
 }
 
-// Reads bytes as a trace line into packet, and prints the answer and all of packet.
-fn show_read<W: Write>(
-    bytes: &[u8],
-    packet: &mut [u8],
-    writer: &mut W,
-    out: &mut Output,
-    used: usize,
-) -> io::Result<usize>
-    requires { used ≤ 65536 }
-    ensures { IfOk result (λ n. n ≤ 65536) }
+// Puts what stands before bytes: a space, and a dash where there are none.
+fn put_gap<W: Write>(bytes: &[u8], out: &mut Output<W>) -> io::Result<()>
+    ensures { OnOk result (Grows (all_put W.contents out.old) (all_put W.contents out.new)) }
 {
-    let read = trace::read_line(bytes, packet);
-    let answer = read.answer();
+    let gap: &[u8] = if bytes.is_empty() { b" -" } else { b" " };
+    out.put_bytes(gap)
+}
+
+// Reads bytes as a trace line into packet, and puts the answer and all of packet.
+fn show_read<W: Write>(bytes: &[u8], packet: &mut [u8], out: &mut Output<W>) -> io::Result<()>
+    ensures { OnOk result (Grows (all_put W.contents out.old) (all_put W.contents out.new)) }
+{
+    let answer = ReadAnswer::from(trace::read_line(bytes, packet));
     let fields = [
-        answer.side as u64,
+        u64::from(answer.side),
         answer.clock,
         answer.length as u64,
         answer.offset as u64,
     ];
-    let end = script::put_fields(writer, out, used, answer.number as u64, &fields)?;
-    let space = script::put(writer, out, end, b' ')?;
-    if packet.len() == 0 {
-        return script::put(writer, out, space, b'-');
-    }
-    put_hex(writer, out, space, packet)
+    out.put_fields(u64::from(answer.number), &fields)?;
+    put_gap(packet, out)?;
+    put_hex(packet, out)
 }
 
 // The command r.
-fn read_line<W: Write>(
-    line: &[u8],
-    bytes: &[u8],
-    writer: &mut W,
-    out: &mut Output,
-    used: usize,
-) -> io::Result<usize>
-    requires { used ≤ 65536 }
-    ensures { IfOk result (λ n. n ≤ 65536) }
+fn read_line<W: Write>(line: &[u8], bytes: &[u8], out: &mut Output<W>) -> io::Result<()>
+    ensures { OnOk result (Grows (all_put W.contents out.old) (all_put W.contents out.new)) }
 {
     let mut packet = [b'.'; 2100];
-    let n = script::least(decimal_number(line, 1), 2100);
-    show_read(bytes, &mut packet[0..n], writer, out, used)
+    let n = decimal_number(line, 1).min(2100);
+    show_read(bytes, &mut packet[..n], out)
 }
 
-// Writes bytes as a trace line into text, and prints the answer and all of text.
+// Writes bytes as a trace line into text, and puts the answer and all of text.
 fn show_written<W: Write>(
     line: &[u8],
     bytes: &[u8],
     text: &mut [u8],
-    writer: &mut W,
-    out: &mut Output,
-    used: usize,
-) -> io::Result<usize>
-    requires { used ≤ 65536 }
-    ensures { IfOk result (λ n. n ≤ 65536) }
+    out: &mut Output<W>,
+) -> io::Result<()>
+    ensures { OnOk result (Grows (all_put W.contents out.old) (all_put W.contents out.new)) }
 {
-    let written = trace::write_line(hex_pair(line, 2) as u32, hex_number(line, 5), bytes, text);
-    let answer = written.answer();
-    let fields = [answer.length as u64];
-    let end = script::put_fields(writer, out, used, answer.number as u64, &fields)?;
-    let space = script::put(writer, out, end, b' ')?;
-    if text.len() == 0 {
-        return script::put(writer, out, space, b'-');
-    }
-    script::put_bytes(writer, out, space, text)
+    let side = u32::from(hex_pair(line, 2));
+    let answer = WriteAnswer::from(trace::write_line(side, hex_number(line, 5), bytes, text));
+    out.put_fields(u64::from(answer.number), &[answer.length as u64])?;
+    put_gap(text, out)?;
+    out.put_bytes(text)
 }
 
 // The command w.
-fn write_line<W: Write>(
-    line: &[u8],
-    bytes: &[u8],
-    writer: &mut W,
-    out: &mut Output,
-    used: usize,
-) -> io::Result<usize>
-    requires { used ≤ 65536 }
-    ensures { IfOk result (λ n. n ≤ 65536) }
+fn write_line<W: Write>(line: &[u8], bytes: &[u8], out: &mut Output<W>) -> io::Result<()>
+    ensures { OnOk result (Grows (all_put W.contents out.old) (all_put W.contents out.new)) }
 {
     let mut text = [b'.'; 4200];
-    let n = script::least(decimal_number(line, 3), 4200);
-    show_written(line, bytes, &mut text[0..n], writer, out, used)
+    let n = decimal_number(line, 3).min(4200);
+    show_written(line, bytes, &mut text[..n], out)
 }
 
 // The command s; what is past 65,535 bytes is left out.
-fn sum<W: Write>(bytes: &[u8], writer: &mut W, out: &mut Output, used: usize) -> io::Result<usize>
-    requires { used ≤ 65536 }
-    ensures { IfOk result (λ n. n ≤ 65536) }
+fn sum<W: Write>(bytes: &[u8], out: &mut Output<W>) -> io::Result<()>
+    ensures { OnOk result (Grows (all_put W.contents out.old) (all_put W.contents out.new)) }
 {
-    let n = script::least(bytes.len(), 65535);
-    let sum = checksum::ones_sum(&bytes[0..n]);
-    let octets = [(sum / 256) as u8, (sum % 256) as u8];
-    put_hex(writer, out, used, &octets)
+    let n = bytes.len().min(65535);
+    let sum = checksum::ones_sum(&bytes[..n]);
+    put_hex(&sum.to_be_bytes(), out)
 }
 
-// The command p, r, w or s.
-fn answer<W: Write>(
-    line: &[u8],
-    bytes: &[u8],
-    writer: &mut W,
-    out: &mut Output,
-    used: usize,
-) -> io::Result<usize>
-    requires { used ≤ 65536 }
-    ensures { IfOk result (λ n. n ≤ 65536) }
-{
-    let command = script::character(line, 0);
-    match command {
-        b'p' => read_packet(bytes, writer, out, used),
-        b'r' => read_line(line, bytes, writer, out, used),
-        b's' => sum(bytes, writer, out, used),
-        _ => write_line(line, bytes, writer, out, used),
-    }
-}
-
-// Ends a line of the output.
-fn ended<W: Write>(writer: &mut W, out: &mut Output, used: usize, held: usize) -> io::Result<Used>
-    requires { held ≤ 66000 }
-    ensures { IfOk result (λ after. (after.buffer ≤ 66000) × (after.output ≤ 65536)) }
-{
-    let output = script::put(writer, out, used, b'\n')?;
-    Ok(Used {
-        buffer: held,
-        output: output,
-    })
-}
-
-// One line of the script.
-fn step<W: Write>(
-    line: &[u8],
-    buffer: &mut Buffer,
-    writer: &mut W,
-    out: &mut Output,
-    used: Used,
-) -> io::Result<Used>
-    requires { (used.buffer ≤ 66000) × (used.output ≤ 65536) }
-    ensures { IfOk result (λ after. (after.buffer ≤ 66000) × (after.output ≤ 65536)) }
-{
-    let held = used.buffer;
-    let at = used.output;
-    let command = script::character(line, 0);
-    match command {
-        b'b' => Ok(Used {
-            buffer: append_hex(buffer, held, line),
-            output: at,
-        }),
-        b'f' => Ok(Used {
-            buffer: append(buffer, held, hex_pair(line, 2), decimal_number(line, 2)),
-            output: at,
-        }),
-        b'p' | b'r' | b's' | b'w' => {
-            let all = &buffer[..];
-            let end = answer(line, &all[0..held], writer, out, at)?;
-            ended(writer, out, end, 0)
+impl Script for Vectors {
+    fn step<W: Write>(&mut self, line: &[u8], out: &mut Output<W>) -> io::Result<()> {
+        // By one match: closures in a table, one for each letter, would be no plainer.
+        match script::character(line, 0) {
+            b'b' => {
+                self.append_hex(line);
+                return Ok(());
+            }
+            b'f' => {
+                self.append(hex_pair(line, 2), decimal_number(line, 2));
+                return Ok(());
+            }
+            b'p' => read_packet(self.buffer.as_slice(), out)?,
+            b'r' => read_line(line, self.buffer.as_slice(), out)?,
+            b's' => sum(self.buffer.as_slice(), out)?,
+            b'w' => write_line(line, self.buffer.as_slice(), out)?,
+            _ => {
+                out.put_bytes(line)?;
+                return out.put(b'\n');
+            }
         }
-        _ => {
-            let end = script::put_bytes(writer, out, at, line)?;
-            ended(writer, out, end, held)
-        }
+        self.buffer.clear();
+        out.put(b'\n')
     }
-}
-
-// Runs the whole script, and answers how much of the output is still to be written.
-fn run<R: Read, W: Write>(
-    reader: &mut R,
-    writer: &mut W,
-    chunk: &mut Chunk,
-    line: &mut Line,
-    buffer: &mut Buffer,
-    out: &mut Output,
-) -> io::Result<usize>
-    ensures { IfOk result (λ n. n ≤ 65536) }
-{
-    let mut used = Used {
-        buffer: 0,
-        output: 0,
-    };
-    let mut input = Input::start();
-    // A proved loop has to end, and nothing says that the input does.
-    let mut turns = u64::MAX;
-    while turns > 0 {
-        turns -= 1;
-        let end = script::next_line(reader, chunk, line, input)?;
-        let length = end.length;
-        if end.is_last && length == 0 {
-            return Ok(used.output);
-        }
-        input = end.input;
-        let text = &line[..];
-        used = step(&text[0..length], buffer, writer, out, used)?;
-    }
-    Ok(used.output)
-}
-
-// Writes what is left of the output.
-fn finish<W: Write>(writer: &mut W, out: &Output, used: usize) -> io::Result<()>
-    requires { used ≤ 65536 }
-{
-    let all = &out[..];
-    writer.write_all(&all[0..used])
 }
 
 fn main(rt: HostRuntime) -> io::Result<()> {
-    let mut reader = rt.stdin();
-    let mut writer = rt.stdout();
-    let mut chunk = [0u8; 65536];
-    let mut line = [0u8; 4096];
-    let mut buffer = [0u8; 66000];
-    let mut out = [0u8; 65536];
-    let n = run(
-        &mut reader,
-        &mut writer,
-        &mut chunk,
-        &mut line,
-        &mut buffer,
-        &mut out,
-    )?;
-    finish(&mut writer, &out, n)
+    let vectors = Vectors {
+        buffer: ArrayVec::new(),
+    };
+    let _writer = script::run(rt.stdin(), rt.stdout(), vectors)?;
+    Ok(())
 }

@@ -1,9 +1,7 @@
-use Rattle.std.proofs.Common.{◌≤◌, ◌-◌, length}
+use Rattle.script.specs.Output.{all_put}
+use Rattle.script.specs.Steps.{Grows}
 use Rattle.vectors.proofs.put_hex.Given as goal
 
--- what is in use stays within the output
-abbrev pub invariant-loop-i : goal.invariant-loop-i
-invariant-loop-i g l = l.n ≤ 65536
-
-abbrev pub decreases-loop-i : goal.decreases-loop-i
-decreases-loop-i g l = length l.bytes - l.i
+-- only text was put
+abbrev pub invariant-loop-b : goal.invariant-loop-b
+invariant-loop-b g l = Grows (all_put g.W.Write.contents l.initial.out) (all_put g.W.Write.contents l.out)
