@@ -19,13 +19,6 @@ slice_range-next piece at have some inside =
     let count : have - at ≡ suc (have - (at + 1)) = omega arith in
     rw (count, drop-cons piece at 0 (omega arith), add-one)
 
--- the next byte of a piece is the first that is still to be given
-pub byte-taken :
-    (known : Option (List ℕ)) (piece : List ℕ) (at have : ℕ) → at < have → have ≤ length piece →
-    Consumes (prepend_known (slice_range piece at have) known) (prepend_known (slice_range piece (at + 1) have) known) (get_or piece at 0 ∷ [])
-byte-taken None piece at have some inside = tt
-byte-taken (Some later) piece at have some inside = ap (λ (front : List ℕ). front ++ later) (slice_range-next piece at have some inside)
-
 pub Consumes-then : (a b c : Option (List ℕ)) (xs ys : List ℕ) → Consumes a b xs → Consumes b c ys → Consumes a c (xs ++ ys)
 Consumes-then None b c xs ys p q = tt
 Consumes-then (Some l) None c xs ys p q = elim p [ ]

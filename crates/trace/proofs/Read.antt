@@ -1,7 +1,7 @@
 -- Laws of reading: the first illegal byte, well-formed lines, and each answer of `read_line`.
 use Prim.Native.Nat.{ℕ, zero, suc, ◌+◌, ◌-◌, ◌%◌, ◌≤◌, ◌<◌, min}
 use mathlib.Core.Path.{◌≡◌, refl, sym, ap, ◌∙◌}
-use mathlib.Core.Bool.{Bool, true, false, ◌&&◌, and-false}
+use mathlib.Core.Bool.{Bool, true, false, ◌&&◌}
 use mathlib.Core.Logic.{⊎_elim}
 use mathlib.Core.List.{List, [], ◌∷◌}
 use native.Mathlib.Omega.{arith}
@@ -14,7 +14,7 @@ use Rattle.std.specs.List.{position_or_len, enumerate_from}
 use Rattle.std.proofs.lemmas.List.Sums.{prefix_len-le-length}
 use Rattle.std.proofs.lemmas.List.FromFn.{length-enumerate_from}
 use Rattle.std.proofs.lemmas.Bool.Decides.{nat_tests}
-use borrow.Author.Tests.{lt-ltb, le-ltb, le-leb, lt-leb, leb-true, eq-eqb, ne_eqb, eqb-true}
+use borrow.Author.Tests.{lt-ltb, le-ltb, le-leb, leb-true, eq-eqb, ne_eqb, eqb-true}
 use Rattle.choice.specs.Choice.{when◌then◌else◌, ◌≤ᵇ◌, ◌=ᵇ◌}
 use Rattle.choice.proofs.Choice.{when-true, when-false}
 use Rattle.choice.proofs.Tests.{lt-or-ge, false-true, &&-true}
@@ -157,18 +157,6 @@ all-legal l n is head rest =
 pub well_formed-true : (l : List ℕ) → first_illegal l ≡ length l → 17 ≤ length l → length l % 2 ≡ 1 → well_formed l ≡ true
 unfolding well_formed
 well_formed-true l all long odd = simp (eq-eqb (first_illegal l) (length l) all, le-leb 17 (length l) long, eq-eqb (length l % 2) 1 odd)
-
-pub illegal-malformed : (l : List ℕ) → (first_illegal l ≡ length l → ⊥) → well_formed l ≡ false
-unfolding well_formed
-illegal-malformed l h = simp (ne_eqb (first_illegal l) (length l) h)
-
-pub short-malformed : (l : List ℕ) → length l < 17 → well_formed l ≡ false
-unfolding well_formed
-short-malformed l h = simp (lt-leb 17 (length l) h, and-false)
-
-pub even-malformed : (l : List ℕ) → (length l % 2 ≡ 1 → ⊥) → well_formed l ≡ false
-unfolding well_formed
-even-malformed l h = simp (ne_eqb (length l % 2) 1 h, and-false)
 
 pub legal-well_formed : (l : List ℕ) (n : ℕ) → LegalLine l n → well_formed l ≡ true
 legal-well_formed l n legal =
