@@ -30,7 +30,11 @@ pub struct Progress {
 fn before_newline(bytes: &[u8]) -> usize
     ensures { (result ≡ before_newline bytes.now) × (result ≤ length bytes.now) }
 {
-    memchr(b'\n', bytes).unwrap_or(bytes.len())
+    match bytes {
+        // An empty line needs no search.
+        [b'\n', ..] => 0,
+        _ => memchr(b'\n', bytes).unwrap_or(bytes.len()),
+    }
 }
 
 // What is shown of a line that is not read: where it is malformed.
@@ -58,8 +62,30 @@ pub struct TraceRun<'a> {
     pub ghost kept_inside: { progress.kept ≤ line_room },
 }
 
-impl TraceRun<'_> {
+impl<'a> TraceRun<'a> {
+    ghost use Rattle.replay.specs.Feed.{memory};
     ghost use Rattle.replay.specs.Run.{memory_of};
+    ghost use Rattle.replay.specs.Written.{at_start, emptied};
+
+    // A run before the first piece, on a table as it is lent.
+    pub fn start(table: &'a mut [u8], line: &'a mut [u8], out: &'a mut [u8]) -> TraceRun<'a>
+        requires { length line.old ≡ line_room }
+        ensures { memory_of result ≡ memory table.old line.old out.old at_start }
+    {
+        TraceRun {
+            table,
+            line,
+            out,
+            progress: Progress::default(),
+        }
+    }
+
+    // The output has been written.
+    pub fn emptied(&mut self)
+        ensures { memory_of self.new ≡ emptied (memory_of self.old) }
+    {
+        self.progress.used = 0;
+    }
 
     // Takes in a piece of the input: each line that ends in it is answered and its text added to the output; what follows the
     // last newline is kept.

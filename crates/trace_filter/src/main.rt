@@ -3,7 +3,7 @@
 
 ghost use Rattle.std.specs.Prelude.{◌≡◌, ◌≤◌, IfOk, length};
 
-use replay::{Progress, TraceRun};
+use replay::TraceRun;
 use std::io;
 use std::io::{Read, Write};
 
@@ -19,16 +19,11 @@ type Table = [u8; 4160];
 // 8 characters for each byte of a piece.
 type Output = [u8; 524288];
 
-// A run at its start. The program's arrays are its memory, so that nothing is allocated.
+// A run before the first piece. The program's arrays are its memory, so that nothing is allocated.
 fn start<'a>(table: &'a mut Table, line: &'a mut Line, out: &'a mut Output) -> TraceRun<'a>
     ensures { (length result.out.now ≡ 524288) × (result.progress.used ≡ 0) }
 {
-    TraceRun {
-        table,
-        line,
-        out,
-        progress: Progress::default(),
-    }
+    TraceRun::start(table, line, out)
 }
 
 // Tells standard error of a failure.
@@ -102,7 +97,7 @@ fn run_trace<R: Read, W: Write, E: Write>(
             Ok(n) => {
                 run.feed(&piece[..n]);
                 write_text(writer, errors, run)?;
-                run.progress.used = 0;
+                run.emptied();
             }
             Err(e) => {
                 finish(writer, errors, run)?;
