@@ -135,3 +135,8 @@ after_verdict (Err e) left = Err e
 -- the connection after a pass, or why there is none
 unfoldable pub decided : Connection → ℕ → Segment → ℕ → Result Connection SegmentError
 decided c i g now = after_verdict (verdict_on c i g) (passed c i g now)
+
+-- the connection then: what a pass leaves, or else as it was
+abbrev pub connection_then : Result Connection SegmentError → Connection → Connection
+connection_then (Ok left) c = left
+connection_then (Err e) c = c

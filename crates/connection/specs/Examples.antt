@@ -3,7 +3,7 @@ use Rattle.std.specs.Prelude.{ℕ, ◌≡◌, [], ◌∷◌, Result, Ok, Err}
 use Rattle.segment.specs.Flags.{SYN, SYN+ACK, ACK, FIN+ACK, RST, ACK+RST, ACK+RST+FIN}
 use Rattle.segment.specs.declared.Segment.{Segment}
 use Rattle.connection.specs.Ends.{count, opener, answerer, seq_num, unheard}
-use Rattle.connection.specs.Decision.{free, decided}
+use Rattle.connection.specs.Decision.{free, decided, connection_then}
 use Rattle.connection.specs.declared.Connection.{Connection}
 use Rattle.connection.specs.declared.End.{End}
 use Rattle.connection.specs.declared.SegmentError.{SegmentError}
@@ -43,7 +43,9 @@ pub record ResetsGive : Type 0 where
   pub in_6 : by_opener ACK+RST+FIN (held 6 0 10100) ≡ Ok (held 6 0 10200)
   -- 14 and 15 judge it as any other segment: one octet past the edge, one past the other's end; without ACK its acknowledgement says nothing
   pub past_edge : decided (held 6 0 10200) opener (segment ACK+RST 101 2001 501 0) 300 ≡ Err SequenceMissed
+  pub past_edge_then : connection_then (decided (held 6 0 10200) opener (segment ACK+RST 101 2001 501 0) 300) (held 6 0 10200) ≡ held 6 0 10200
   pub past_end : decided (held 3 0 432000100) opener (segment ACK+RST 101 0 502 0) 300 ≡ Err AckMissed
+  pub past_end_then : connection_then (decided (held 3 0 432000100) opener (segment ACK+RST 101 0 502 0) 300) (held 3 0 432000100) ≡ held 3 0 432000100
   pub without_ack : decided (held 3 0 432000100) opener (segment RST 101 0 502 0) 300 ≡ Ok (held 6 0 10300)
   -- the next segment without RST returns to 5, 4 or 3 by the FIN bits, its own counted: never to 2
   pub to_3_by_syn : decided (held 6 0 10200) opener (segment SYN 100 1 0 1000) 300 ≡ Ok (held 3 0 432000300)
