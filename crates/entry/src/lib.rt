@@ -229,6 +229,14 @@ impl<'a> Place<'a> {
     }
 }
 
+// The entry at a place.
+pub fn load(version: Version, table: &[u8], place: usize) -> Entry
+    requires { place_at version place + entry_size version ≤ length table.now }
+    ensures { result ≡ entry_at version table.now (place_at version place) }
+{
+    Place::of(version, table, place).entry()
+}
+
 // Storing. Table and offset are given apart: a struct that lends the table would be made for each part that is stored.
 
 // One end's record.
