@@ -12,6 +12,7 @@ use Rattle.std.proofs.Common.{Ok, Err, Option, Some, None, cond, not, max, fold,
 use Rattle.std.specs.Option.{unwrap_or}
 use Rattle.std.specs.List.{position_or_len, enumerate_from}
 use Rattle.std.proofs.lemmas.List.Sums.{prefix_len-le-length}
+use Rattle.std.proofs.lemmas.List.Quantifiers.{position-Some}
 use Rattle.std.proofs.lemmas.List.FromFn.{length-enumerate_from}
 use Rattle.std.proofs.lemmas.Bool.Decides.{nat_tests}
 use borrow.Author.Tests.{lt-ltb, le-ltb, le-leb, leb-true, eq-eqb, ne_eqb, eqb-true}
@@ -93,6 +94,16 @@ module _ (l : List ℕ) where
   pub first_illegal-here : first_illegal l < length l → may_stand (first_illegal l) (get_or l (first_illegal l) 0) ≡ false
   first_illegal-here = first_illegal-first.here
 
+  -- an illegal byte in a part from the front is the line's first
+  pub illegal-in-part : (end : ℕ) → end ≤ length l → illegal_from l 0 end < end → illegal_from l 0 end ≡ first_illegal l
+  illegal-in-part end short found =
+      let f = illegal_from-first l 0 end end (omega arith) in
+      let r = illegal_from l 0 end in
+      ⊎_elim (λ (h : r < first_illegal l). false-true (sym (f.here found) ∙ first_illegal-before r h))
+      (λ (h : first_illegal l ≤ r).
+      ⊎_elim (λ (g : first_illegal l < r). false-true (sym (first_illegal-here (omega (arith, g, found))) ∙ f.before (first_illegal l) (omega arith) g))
+      (λ (g : r ≤ first_illegal l). omega (arith, g, h)) (lt-or-ge (first_illegal l) r)) (lt-or-ge r (first_illegal l))
+
   first_illegal≡length : ((i : ℕ) → i < length l → may_stand i (get_or l i 0) ≡ true) → first_illegal l ≡ length l
   first_illegal≡length each =
       ⊎_elim (λ (h : first_illegal l < length l). false-true (sym (first_illegal-here h) ∙ each (first_illegal l) h))
@@ -136,6 +147,20 @@ unfolding first_illegal
 illegal_position-or-length l =
     ap (unwrap_or (illegal_position l)) (sym (length-enumerate_from {X = ℕ} 0 l)) ∙ position-or-length may_not_stand (enumerate_from 0 l)
     ∙ rw zero-add at (position_or_len-illegal l l 0 (length l) refl (omega arith))
+
+illegal_from-take : (l : List ℕ) (n i k : ℕ) → i + k ≤ n → illegal_from (take n l) i k ≡ illegal_from l i k
+unfolding illegal_from
+illegal_from-take l n i zero h = refl
+illegal_from-take l n i (suc k) h = rw (get_or-take n l i 0 (omega arith), illegal_from-take l n (i + 1) k (omega arith))
+
+-- a byte that the search finds in a part from the front is the line's first illegal one
+pub illegal_position-in-part : (l : List ℕ) (n i : ℕ) → n ≤ length l → illegal_position (take n l) ≡ Some i → i ≡ first_illegal l
+unfolding first_illegal
+illegal_position-in-part l n i short found =
+    let size : length (take n l) ≡ n = length-take-le n l short in
+    let here : i ≡ illegal_from l 0 n = rw (found, size) at (illegal_position-or-length (take n l)) ∙ illegal_from-take l n 0 n (omega arith) in
+    let inside = (position-Some may_not_stand (enumerate_from 0 (take n l)) i (0, 0) found).0 in
+    here ∙ illegal-in-part l n short (omega (arith, here, size, inside, length-enumerate_from {X = ℕ} 0 (take n l)))
 
 -- every byte of the head may stand where it stands, and the rest are hex digits
 pub all-legal :

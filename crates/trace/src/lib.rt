@@ -168,14 +168,17 @@ fn all_hex(bytes: &[u8]) -> bool
     worst == 0
 }
 
-// An illegal byte is rare: all bytes are tested at once, and only if one may not stand there is it looked for.
-// The length where all may, as the definition has it.
+// An illegal byte is rare: past the head all bytes are tested at once, and only if one is no hex digit is it looked for.
+// The length where all may stand, as the definition has it.
 fn first_illegal(line: &[u8]) -> usize
     ensures { result ≡ first_illegal line.now }
 {
     let len = line.len();
     let head = len.min(15);
-    if first_that_may_not_stand(&line[..head]).is_none() && all_hex(&line[head..]) {
+    if let Some(i) = first_that_may_not_stand(&line[..head]) {
+        return i;
+    }
+    if all_hex(&line[head..]) {
         return len;
     }
     first_that_may_not_stand(line).unwrap_or(len)
