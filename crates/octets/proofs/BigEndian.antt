@@ -18,6 +18,12 @@ pub big_endian-2 : (l : List ℕ) (at : ℕ) → big_endian 2 l at ≡ get_or l 
 unfolding big_endian number
 big_endian-2 l at = rw add-zero (omega arith)
 
+pub big_endian-4 :
+    (l : List ℕ) (at : ℕ) →
+    big_endian 4 l at ≡ ((get_or l at 0 * 256 + get_or l (at + 1) 0) * 256 + get_or l (at + 2) 0) * 256 + get_or l (at + 3) 0
+unfolding big_endian number
+big_endian-4 l at = rw add-zero (omega arith)
+
 pub big_endian-add : (m n : ℕ) (l : List ℕ) (at : ℕ) → big_endian (m + n) l at ≡ big_endian m l at * 256 ^ n + big_endian n l (at + m)
 unfolding big_endian
 big_endian-add m n l at =
