@@ -51,6 +51,11 @@ pub ring_minus-small : (x y : ℕ) → ring_minus x y < 2 ^ 32
 unfolding ring_minus
 ring_minus-small x y = omega arith
 
+-- the number that, added to y, wraps to x
+pub ring_minus-unique : (r x y : ℕ) → r < 2 ^ 32 → y < 2 ^ 32 → (r + y) % 2 ^ 32 ≡ x → r ≡ ring_minus x y
+unfolding ring_minus
+ring_minus-unique r x y small small' sum = omega arith
+
 -- counted up from L, a sequence number is reached within a turn
 pub wrap-counted : (L s : ℕ) → s < 2 ^ 32 → wrap (L + ring_minus s (wrap L)) ≡ s
 unfolding wrap ring_minus
@@ -152,6 +157,13 @@ pub nearest_counted :
 unfolding wrap ring_minus
 nearest_counted base x small small' =
     sym ((nearest-is (base + 2 ^ 32) x _ (omega arith) (omega arith)).1 (omega arith, omega arith, omega arith))
+
+-- the same for any count that, added to base, wraps to x
+pub nearest-counted :
+    (base x up : ℕ) → up < 2 ^ 32 → base < 2 ^ 32 → (up + base) % 2 ^ 32 ≡ x →
+    nearest (base + 2 ^ 32) x ≡ base + 2 ^ 31 + (up + 2 ^ 31) % 2 ^ 32
+nearest-counted base x up small small' sum =
+    rw (ring_minus-unique up x base small small' sum) (nearest_counted base x small' (omega arith))
 
 -- What a pass writes, told from the counts that the ranges compare
 
