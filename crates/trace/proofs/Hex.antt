@@ -12,7 +12,7 @@ use lib.Seq.{get_or-take, get_or-drop, drop-cons, drop_at, length-take-le, take-
 use borrow.Author.Tests.{lt-ltb, le-ltb}
 use Rattle.choice.specs.Choice.{when◌then◌else◌}
 use Rattle.choice.proofs.Choice.{when-true, when-false}
-use Rattle.choice.proofs.Tests.{true-or-false, lt-or-ge, ||-true, true-between, not-between-above, between-true}
+use Rattle.choice.proofs.Tests.{true-or-false, lt-or-ge, ||-true, true-between, not-between-below, not-between-above, between-true}
 use Rattle.octets.specs.Digits.{tabulate, number, digits}
 use Rattle.octets.proofs.Digits.{number-cong, number_digits, digits_number, number<base^n, tabulate-cong, map-tabulate, tabulate-get_or}
 use Rattle.octets.proofs.Text.{length-map-digits, map-digits-suc}
@@ -34,6 +34,18 @@ digit-letter b low high =
 no_digit : (b : ℕ) → is_decimal b ≡ false → is_letter b ≡ false → (is_hex b ≡ false) × (hex_value b ≡ 0)
 unfolding is_hex hex_value
 no_digit b d l = (rw (d, l), when-false _ _ _ d ∙ when-false _ _ _ l)
+
+pub no-digit-below : (b : ℕ) → b < 48 → (is_hex b ≡ false) × (hex_value b ≡ 0)
+unfolding is_decimal is_letter
+no-digit-below b h = no_digit b (not-between-below 48 57 b h) (not-between-below 97 102 b (omega arith))
+
+pub no-digit-between : (b : ℕ) → 57 < b → b < 97 → (is_hex b ≡ false) × (hex_value b ≡ 0)
+unfolding is_decimal is_letter
+no-digit-between b g h = no_digit b (not-between-above 48 57 b g) (not-between-below 97 102 b h)
+
+pub no-digit-above : (b : ℕ) → 102 < b → (is_hex b ≡ false) × (hex_value b ≡ 0)
+unfolding is_decimal is_letter
+no-digit-above b h = no_digit b (not-between-above 48 57 b (omega arith)) (not-between-above 97 102 b h)
 
 is_hex-cases : (b : ℕ) → is_hex b ≡ true → ((48 ≤ b) × (b ≤ 57)) ⊎ ((97 ≤ b) × (b ≤ 102))
 unfolding is_decimal is_letter is_hex
