@@ -4,7 +4,7 @@ use mathlib.Core.Path.{◌≡◌, sym, ◌∙◌}
 use mathlib.Core.Logic.{⊎_elim}
 use native.Mathlib.Omega.{arith}
 use Rattle.choice.proofs.Tests.{lt-or-ge}
-use Rattle.table.proofs.Words.{sound-at, header-clock-under, table-not-by-header, table-not-by-place, table-by-places}
+use Rattle.table.proofs.Words.{sound-at, header-clock-under, table-not-by-header, table-not-by-place, table-by-each-place}
 use Rattle.table.proofs.Table.is_sound.Goals as goal
 
 pub returns-then-not-sound_header : goal.returns-then-not-sound_header
@@ -37,7 +37,7 @@ loop-number-preserved c =
 pub returns : goal.returns
 returns c =
     let header = sym c.sound_header.ensures ∙ c.if-not-sound_header.false in
-    sym (table-by-places _ _ _ header (λ p h. c.loop-number.invariant p (omega (arith, h))))
+    sym (table-by-each-place _ _ _ header (λ p h. c.loop-number.invariant p (omega (arith, h))))
 
 pub sound_header-requires : goal.sound_header-requires
 sound_header-requires c = let t = c.args.self.now in omega (arith, header-first t.version t.places, t.inside)
