@@ -151,11 +151,11 @@ pub nearest-wrap : (E S : ℕ) → 2 ^ 31 ≤ E → E ≤ S + 2 ^ 31 → S < E +
 nearest-wrap E S high near near' = sym ((nearest-is E (wrap S) S high (wrap-small S)).1 (refl, near, near'))
 
 -- how far the nearest place lies past half a turn below base
-pub nearest_counted :
+pub nearest_ring_minus :
     (base x : ℕ) → base < 2 ^ 32 → x < 2 ^ 32 →
     nearest (base + 2 ^ 32) x ≡ base + 2 ^ 31 + (ring_minus x base + 2 ^ 31) % 2 ^ 32
 unfolding wrap ring_minus
-nearest_counted base x small small' =
+nearest_ring_minus base x small small' =
     sym ((nearest-is (base + 2 ^ 32) x _ (omega arith) (omega arith)).1 (omega arith, omega arith, omega arith))
 
 -- the same for any count that, added to base, wraps to x
@@ -163,7 +163,7 @@ pub nearest-counted :
     (base x up : ℕ) → up < 2 ^ 32 → base < 2 ^ 32 → (up + base) % 2 ^ 32 ≡ x →
     nearest (base + 2 ^ 32) x ≡ base + 2 ^ 31 + (up + 2 ^ 31) % 2 ^ 32
 nearest-counted base x up small small' sum =
-    rw (ring_minus-unique up x base small small' sum) (nearest_counted base x small' (omega arith))
+    rw (ring_minus-unique up x base small small' sum) (nearest_ring_minus base x small' (omega arith))
 
 -- What a pass writes, told from the counts that the ranges compare
 

@@ -67,7 +67,7 @@ impl SeqNum {
 }
 
 // Where x stands on the line, counted from half a turn below base.
-#[tactic(auto, using(crate::proofs::Ring::nearest_counted))]
+#[tactic(auto, using(crate::proofs::Ring::nearest_ring_minus))]
 fn standing(base: SeqNum, x: SeqNum) -> u32
     ensures { nearest (base.0 + 2 ^ 32) x.0 ≡ base.0 + 2 ^ 31 + result }
 {
