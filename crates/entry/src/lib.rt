@@ -127,7 +127,7 @@ pub struct Place<'a> {
 }
 
 impl<'a> Place<'a> {
-    // The place of this number.
+    // The place of this number. What it asks is what the type then says.
     pub fn of(version: Version, table: &'a [u8], place: usize) -> Self
         requires { place_at version place + entry_size version ≤ length table.now }
         ensures version { result.version ≡ version }
@@ -290,7 +290,7 @@ fn store_rest(version: Version, table: &mut [u8], at: usize)
     table[at..at + rest_size(version)].fill(0);
 }
 
-// All bytes of the place are written, the zero ones too.
+// All bytes of the place are written, the zero ones too. The table is lent to be written, which no Place is.
 pub fn store(version: Version, table: &mut [u8], place: usize, entry: Entry)
     requires { place_at version place + entry_size version ≤ length table.old }
     ensures { table.new ≡ overwrite table.old (place_at version place) (entry_bytes version entry) }

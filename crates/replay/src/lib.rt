@@ -180,7 +180,7 @@ impl<'a> TraceRun<'a> {
         }
     }
 
-    // Adds the text of an answer to the output, and counts it.
+    // Adds the text of an answer to the output, and counts it. Answer and what is shown are given apart, as `result_text` takes them.
     #[tactic(auto, using(choice::proofs::Choice::when_cond))]
     fn put_answer(&mut self, answer: u32, shown: Option<usize>)
         requires { self.old.progress.used + length (result_text answer shown) ≤ length self.old.out.now }

@@ -112,7 +112,7 @@ fn is_hex(b: u8) -> bool
     matches!(b, b'0'..=b'9' | b'a'..=b'f')
 }
 
-// What a hex digit is worth; 0 for any other byte.
+// What a hex digit is worth; 0 for any other byte and no Option, as the definition of the same name has it.
 #[tactic(auto, using(choice::proofs::Choice::when_cond), unfolding(crate::specs::Hex::is_decimal, crate::specs::Hex::is_letter, crate::specs::Hex::hex_value))]
 pub fn hex_value(b: u8) -> u8
     ensures { (result ≡ hex_value b) × (result < 16) }
