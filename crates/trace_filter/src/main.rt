@@ -2,6 +2,7 @@
 #![tactic(auto)]
 
 ghost use Rattle.std.specs.Prelude.{◌≡◌, ◌≤◌, IfOk, length};
+ghost use Rattle.replay.specs.Written.{at_start};
 
 use replay::TraceRun;
 use std::io;
@@ -21,7 +22,7 @@ type Output = [u8; 524288];
 
 // A run before the first piece. The program's arrays are its memory, so that nothing is allocated.
 fn start<'a>(table: &'a mut Table, line: &'a mut Line, out: &'a mut Output) -> TraceRun<'a>
-    ensures { (length result.out.now ≡ 524288) × (result.progress.used ≡ 0) }
+    ensures { (length result.out.now ≡ 524288) × (result.progress ≡ at_start) }
 {
     TraceRun::start(table, line, out)
 }
