@@ -1,7 +1,7 @@
 // Reads a script by lines and collects the output, for the programs that run one.
 #![tactic(auto)]
 
-ghost use Rattle.std.specs.Prelude.{ℕ, Ok, Some, None, IsOk, IfOk, IfSome, OnOk, OnErr, ◌≡◌, ◌+◌, ◌-◌, ◌*◌, ◌%◌, ◌^◌, ◌<◌, ◌≤◌, List, length, slice_index, [], ◌∷◌, ⊤};
+ghost use Rattle.std.specs.Prelude.{ℕ, true, false, Ok, Some, None, IsOk, IfOk, IfSome, OnOk, OnErr, ◌≡◌, ◌+◌, ◌-◌, ◌*◌, ◌%◌, ◌^◌, ◌<◌, ◌≤◌, List, length, slice_index, [], ◌∷◌, ⊤};
 ghost use Rattle.std.specs.Io.KnownBytes.{Appends};
 ghost use Rattle.arrayvec.specs.ArrayVec.{array_vec_len};
 ghost use Rattle.report.specs.Text.{decimal_text};
@@ -16,14 +16,6 @@ use std::io::{Read, Write};
 
 // A line of the script; what is longer is cut.
 pub type Line = ArrayVec<u8, 4096>;
-
-// A last line without a newline is a line if it has any character.
-fn last_line(line: Line) -> Option<Line>
-    ensures some { 0 < array_vec_len line → result ≡ Some line }
-    ensures none { array_vec_len line ≡ 0 → result ≡ None }
-{
-    if line.is_empty() { None } else { Some(line) }
-}
 
 // The lines of an input, which is read in pieces. Of the latest piece the bytes from at on are still to be given.
 // The piece is an array with its length beside: a reader writes bytes that are lent, and a vector lends none that it does not hold yet.
@@ -105,17 +97,36 @@ impl<R: Read> Lines<R> {
         ensures taken { IfOk result (TakesLine (unread R.remaining self.old) (unread R.remaining self.new)) }
     {
         let mut line = Line::new();
+        if self.next_line_into(&mut line)? {
+            Ok(Some(line))
+        } else {
+            Ok(None)
+        }
+    }
+
+    // The next line as next_line gives it, but in a line that is lent, and whether there was one. What the lent line held is gone, and
+    // at the end it is empty. To make a line writes 4,096 zeroes, and so whoever reads many lends one.
+    pub fn next_line_into(&mut self, line: &mut Line) -> io::Result<bool>
+        ensures length_bound { array_vec_len line.new ≤ 4096 }
+        ensures held { (i : ℕ) → self.old.at ≤ i → i < self.old.have → slice_index self.old.piece i ≡ 10 → IsOk result }
+        ensures taken { IfOk result (λ found.
+            (found ≡ true → TakesLine (unread R.remaining self.old) (unread R.remaining self.new) (Some line.new))
+            × (found ≡ false → TakesLine (unread R.remaining self.old) (unread R.remaining self.new) None)) }
+        ensures emptied { IfOk result (λ found. found ≡ false → line.new.items ≡ []) }
+    {
+        line.clear();
         // A proved loop has to end, and nothing says that the input does.
         for _ in 0..u64::MAX {
             match self.next_byte()? {
-                Some(b'\n') => return Ok(Some(line)),
+                Some(b'\n') => return Ok(true),
                 Some(b) => {
                     let _cut = line.try_push(b);
                 }
                 None => break,
             }
         }
-        Ok(last_line(line))
+        // A last line without a newline is a line if it has any character.
+        Ok(!line.is_empty())
     }
 }
 
@@ -265,12 +276,13 @@ pub fn run<R: Read + Drop, W: Write + Drop, S: Script + Drop>(
     let mut lines = Lines::new(reader);
     let mut out = Output::new(writer);
     let mut state = script;
+    let mut line = Line::new();
     // A proved loop has to end, and nothing says that the input does.
     for _ in 0..u64::MAX {
-        match lines.next_line()? {
-            Some(line) => state.step(line.as_slice(), &mut out)?,
-            None => break,
+        if !lines.next_line_into(&mut line)? {
+            break;
         }
+        state.step(line.as_slice(), &mut out)?;
     }
     out.finish()
 }

@@ -2,7 +2,7 @@ use Rattle.std.proofs.Common.{◌≡◌, ◌≤◌, ◌<◌, ℕ, get_or}
 use Rattle.arrayvec.specs.ArrayVec.{array_vec_len}
 use Rattle.script.specs.Unread.{unread}
 use Rattle.script.proofs.Taken.{Reading}
-use Rattle.script.proofs.Lines.next_line.Given as goal
+use Rattle.script.proofs.Lines.next_line_into.Given as goal
 
 -- the line stays within its length, a newline that the piece held at first is still to come, and the line has what was taken
 abbrev pub invariant-loop : goal.invariant-loop
