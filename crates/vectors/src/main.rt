@@ -57,18 +57,21 @@ fn decimal_number(line: &[u8], at: usize) -> usize {
 }
 
 impl Vectors {
-    // Appends n copies of b, as far as the buffer has room for them.
+    // Appends n copies of b, as far as the buffer has room for them: 512 at a time, as one by one takes many times as long.
     fn append(&mut self, b: u8, n: usize) {
-        for _ in 0..n {
-            let _left_out = self.buffer.try_push(b);
+        let copies = [b; 512];
+        let fits = n.min(self.buffer.remaining_capacity());
+        for _ in 0..fits / 512 {
+            let _none_left_out = self.buffer.try_extend_from_slice(&copies);
         }
+        let _none_left_out = self.buffer.try_extend_from_slice(&copies[..fits % 512]);
     }
 
     // Appends the bytes of a b line.
     fn append_hex(&mut self, line: &[u8]) {
         if let Some(digits) = line.get(2..) {
             for pair in digits.chunks(2) {
-                self.append(hex_pair(pair, 0), 1);
+                let _left_out = self.buffer.try_push(hex_pair(pair, 0));
             }
         }
     }
