@@ -52,7 +52,9 @@ fn hex_number(line: &[u8], at: usize) -> u64
 }
 
 // A decimal field, which has at most five digits.
-fn decimal_number(line: &[u8], at: usize) -> usize {
+fn decimal_number(line: &[u8], at: usize) -> usize
+    ensures { result < 100000 }
+{
     (script::decimal_field(line, at) % 100_000) as usize
 }
 
