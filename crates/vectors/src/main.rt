@@ -59,11 +59,14 @@ fn decimal_number(line: &[u8], at: usize) -> usize
 }
 
 impl Vectors {
-    // Appends n copies of b, as far as the buffer has room for them: 512 at a time, as one by one takes many times as long.
+    // Appends n copies of b, as far as the buffer has room for them: 4,096 and then 512 at a time, as one by one takes many times as long.
     fn append(&mut self, b: u8, n: usize) {
-        let copies = [b; 512];
         let fits = n.min(self.buffer.remaining_capacity());
-        for _ in 0..fits / 512 {
+        for _ in 0..fits / 4096 {
+            let _none_left_out = self.buffer.try_extend_from_slice(&[b; 4096]);
+        }
+        let copies = [b; 512];
+        for _ in 0..fits % 4096 / 512 {
             let _none_left_out = self.buffer.try_extend_from_slice(&copies);
         }
         let _none_left_out = self.buffer.try_extend_from_slice(&copies[..fits % 512]);
