@@ -1,7 +1,7 @@
 -- Laws of what was put: known bytes grow step by step.
-use Rattle.std.proofs.Common.{ℕ, ◌+◌, ◌<◌, ◌≤◌, List, [], ◌∷◌, ◌++◌, length, get_or, take, sym, ap, ◌∙◌, add-one, append_assoc, take-suc, Some, None}
+use Rattle.std.proofs.Common.{◌≡◌, ℕ, ◌+◌, ◌<◌, ◌≤◌, List, [], ◌∷◌, ◌++◌, length, get_or, take, sym, ap, ◌∙◌, add-one, append_assoc, take-suc, Some, None}
 use Rattle.std.proofs.lemmas.List.{append-nil, take_all}
-use Rattle.std.specs.Io.KnownBytes.{Appends}
+use Rattle.std.specs.Io.KnownBytes.{Appends, append_known}
 use Rattle.std.specs.declared.option.Option.{Option}
 use Rattle.report.specs.Text.{decimal_text}
 use Rattle.script.specs.Fields.{spaced}
@@ -16,6 +16,12 @@ Appends-then None b c xs ys p q = tt
 Appends-then (Some l) None c xs ys p q = elim p [ ]
 Appends-then (Some l) (Some m) None xs ys p q = elim q [ ]
 Appends-then (Some l) (Some m) (Some n) xs ys p q = q ∙ ap (λ (k : List ℕ). k ++ ys) p ∙ append_assoc l xs ys
+
+-- what is held grows
+pub held-grows :
+    (known : Option (List ℕ)) (held after bytes : List ℕ) → after ≡ held ++ bytes → Appends (append_known known held) (append_known known after) bytes
+held-grows None held after bytes e = tt
+held-grows (Some xs) held after bytes e = ap (λ (k : List ℕ). xs ++ k) e ∙ sym (append_assoc xs held bytes)
 
 -- one more byte of a list
 pub put-next :

@@ -212,7 +212,10 @@ impl<W: Write> Output<W> {
         ensures fits { length self.old.held.items + length bytes.now ≤ 65536 → IsOk result }
     {
         for &b in bytes {
-            self.put(b)?;
+            // put alone would do, but its answer is 96 bytes for each that it puts.
+            if self.held.try_push(b).is_err() {
+                self.put(b)?;
+            }
         }
         Ok(())
     }
