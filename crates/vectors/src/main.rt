@@ -87,8 +87,7 @@ fn put_hex<W: Write>(bytes: &[u8], out: &mut Output<W>) -> io::Result<()>
     ensures { OnOk result (Grows (all_put W.contents out.old) (all_put W.contents out.new)) }
 {
     for &b in bytes {
-        out.put(trace::hex_digit(b / 16))?;
-        out.put(trace::hex_digit(b % 16))?;
+        out.put_bytes(&[trace::hex_digit(b / 16), trace::hex_digit(b % 16)])?;
     }
     Ok(())
 }
