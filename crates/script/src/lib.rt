@@ -137,6 +137,7 @@ pub fn character(line: &[u8], at: usize) -> u8
     line.get(at).copied().unwrap_or(0)
 }
 
+// What a decimal digit is worth; 0 for any other character and no Option, as the definition has it.
 #[tactic(auto, using(choice::proofs::Choice::when_cond), unfolding(crate::specs::Fields::decimal_value))]
 fn decimal_value(c: u8) -> u64
     ensures { (result ≡ decimal_value c) × (result < 10) }
@@ -154,7 +155,7 @@ fn with_digit(v: u64, c: u8) -> u64
     v.wrapping_mul(10).wrapping_add(decimal_value(c))
 }
 
-// The decimal number after so many spaces of a line, modulo 2^64; 0 where there is none.
+// The decimal number after so many spaces of a line, modulo 2^64; 0 where there is none and no Option, as the definition has it.
 pub fn decimal_field(line: &[u8], at: usize) -> u64
     ensures { result ≡ decimal_field line.now at }
 {
