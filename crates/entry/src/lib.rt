@@ -127,7 +127,7 @@ pub struct Place<'a> {
 }
 
 impl<'a> Place<'a> {
-    // The place of this number. What it asks is what the type then says.
+    // The place of this number. It asks for the fact that the type keeps.
     pub fn of(version: Version, table: &'a [u8], place: usize) -> Self
         requires { place_at version place + entry_size version ≤ length table.now }
         ensures version { result.version ≡ version }
@@ -229,7 +229,7 @@ impl<'a> Place<'a> {
     }
 }
 
-// The entry at a place.
+// The entry at a place, which is made for this call and asks for its fact.
 pub fn load(version: Version, table: &[u8], place: usize) -> Entry
     requires { place_at version place + entry_size version ≤ length table.now }
     ensures { result ≡ entry_at version table.now (place_at version place) }

@@ -104,8 +104,8 @@ impl<R: Read> Lines<R> {
         }
     }
 
-    // The next line as next_line gives it, but in a line that is lent, and whether there was one. What the lent line held is gone, and
-    // at the end it is empty. To make a line writes 4,096 zeroes, and so whoever reads many lends one.
+    // The next line as next_line gives it, but in a line that is lent, and whether there was one; where there was none it is empty. What
+    // the lent line held is gone. To make a line writes 4,096 zeroes, and so whoever reads many lends one.
     pub fn next_line_into(&mut self, line: &mut Line) -> io::Result<bool>
         ensures length_bound { array_vec_len line.new ≤ 4096 }
         ensures held { (i : ℕ) → self.old.at ≤ i → i < self.old.have → slice_index self.old.piece i ≡ 10 → IsOk result }
@@ -213,7 +213,7 @@ impl<W: Write> Output<W> {
         ensures fits { length self.old.held.items + length bytes.now ≤ 65536 → IsOk result }
     {
         for &b in bytes {
-            // put alone would do, but its answer is 96 bytes for each that it puts.
+            // put alone would do, but writes an answer of 96 bytes for each byte.
             if self.held.try_push(b).is_err() {
                 self.put(b)?;
             }

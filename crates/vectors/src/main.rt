@@ -16,22 +16,24 @@
 // where HEX and TEXT are all NNNNN bytes, each '.' before, or '-' where there are none.
 #![tactic(auto, using(script::proofs::Growth::growth))]
 
-ghost use Rattle.std.specs.Prelude.{◌<◌, OnOk};
+ghost use Rattle.std.specs.Prelude.{◌<◌, ◌≤◌, OnOk};
 ghost use Rattle.script.specs.Output.{all_put};
 ghost use Rattle.script.specs.Steps.{Grows};
 
 use address::Flow;
-use arrayvec::ArrayVec;
 use script::{Output, Script};
 use segment::Segment;
 use std::io;
 use std::io::Write;
 use trace::{ReadAnswer, WriteAnswer};
 
-// The bytes that the next p, r, w or s is on. There is room for more than the longest packet.
+// The bytes that the next p, r, w or s is on: the first of an array, with their number beside it. There is room for more than the longest
+// packet. An ArrayVec writes zeroes over all that it held whenever it is cleared.
 #[derive(Drop)]
 struct Vectors {
-    buffer: ArrayVec<u8, 66000>,
+    buffer: [u8; 66000],
+    used: usize,
+    ghost inside: { used ≤ 66000 },
 }
 
 // The byte that two hex digits stand for.
@@ -59,24 +61,23 @@ fn decimal_number(line: &[u8], at: usize) -> usize
 }
 
 impl Vectors {
-    // Appends n copies of b, as far as the buffer has room for them: 4,096 and then 512 at a time, as one by one takes many times as long.
+    // The bytes.
+    fn bytes(&self) -> &[u8] {
+        &self.buffer[..self.used]
+    }
+
+    // Appends n copies of b, as far as the buffer has room for them.
     fn append(&mut self, b: u8, n: usize) {
-        let fits = n.min(self.buffer.remaining_capacity());
-        for _ in 0..fits / 4096 {
-            let _none_left_out = self.buffer.try_extend_from_slice(&[b; 4096]);
-        }
-        let copies = [b; 512];
-        for _ in 0..fits % 4096 / 512 {
-            let _none_left_out = self.buffer.try_extend_from_slice(&copies);
-        }
-        let _none_left_out = self.buffer.try_extend_from_slice(&copies[..fits % 512]);
+        let end = self.used + n.min(66000 - self.used);
+        self.buffer[self.used..end].fill(b);
+        self.used = end;
     }
 
     // Appends the bytes of a b line.
     fn append_hex(&mut self, line: &[u8]) {
         if let Some(digits) = line.get(2..) {
             for pair in digits.chunks(2) {
-                let _left_out = self.buffer.try_push(hex_pair(pair, 0));
+                self.append(hex_pair(pair, 0), 1);
             }
         }
     }
@@ -198,23 +199,24 @@ impl Script for Vectors {
                 self.append(hex_pair(line, 2), decimal_number(line, 2));
                 return Ok(());
             }
-            b'p' => read_packet(self.buffer.as_slice(), out)?,
-            b'r' => read_line(line, self.buffer.as_slice(), out)?,
-            b's' => sum(self.buffer.as_slice(), out)?,
-            b'w' => write_line(line, self.buffer.as_slice(), out)?,
+            b'p' => read_packet(self.bytes(), out)?,
+            b'r' => read_line(line, self.bytes(), out)?,
+            b's' => sum(self.bytes(), out)?,
+            b'w' => write_line(line, self.bytes(), out)?,
             _ => {
                 out.put_bytes(line)?;
                 return out.put(b'\n');
             }
         }
-        self.buffer.clear();
+        self.used = 0;
         out.put(b'\n')
     }
 }
 
 fn main(rt: HostRuntime) -> io::Result<()> {
     let vectors = Vectors {
-        buffer: ArrayVec::new(),
+        buffer: [0; 66000],
+        used: 0,
     };
     let _writer = script::run(rt.stdin(), rt.stdout(), vectors)?;
     Ok(())
