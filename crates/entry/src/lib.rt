@@ -229,7 +229,7 @@ impl<'a> Place<'a> {
     }
 }
 
-// The entry at a place, which is made for this call and asks for its fact.
+// The entry at a place. The Place is made for this call, so that its fact is asked for.
 pub fn load(version: Version, table: &[u8], place: usize) -> Entry
     requires { place_at version place + entry_size version ≤ length table.now }
     ensures { result ≡ entry_at version table.now (place_at version place) }

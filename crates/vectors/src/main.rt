@@ -27,8 +27,8 @@ use std::io;
 use std::io::Write;
 use trace::{ReadAnswer, WriteAnswer};
 
-// The bytes that the next p, r, w or s is on: the first of an array, with their number beside it. There is room for more than the longest
-// packet. An ArrayVec writes zeroes over all that it held whenever it is cleared.
+// The bytes that the next p, r, w or s is on: the first `used` bytes of an array, with room for more than the longest packet. No ArrayVec,
+// which writes zeroes over all that it held whenever it is cleared.
 #[derive(Drop)]
 struct Vectors {
     buffer: [u8; 66000],
